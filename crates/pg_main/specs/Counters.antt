@@ -1,0 +1,17 @@
+-- The counters of the workers, one for each. A counter is absent only while a worker has it.
+use Rattle.std.specs.Prelude.{◌≡◌, ℕ, ◌+◌, ◌<◌, List, Option, Some, None, IsSome, length, slice_index_or}
+
+abbrev pub counter_at : List (Option ℕ) → ℕ → Option ℕ
+counter_at counters worker = slice_index_or counters worker None
+
+abbrev pub ArePresent : List (Option ℕ) → Type 0
+ArePresent counters = (worker : ℕ) → worker < length counters → IsSome (counter_at counters worker)
+
+abbrev pub raised_by : ℕ → Option ℕ → Option ℕ
+raised_by steps None = None
+raised_by steps (Some count) = Some (count + steps)
+
+-- the first counter took these steps, and the others none
+pub record FirstTakes (before after : List (Option ℕ)) (steps : ℕ) : Type 0 where
+  pub first : counter_at after 0 ≡ raised_by steps (counter_at before 0)
+  pub others : (worker : ℕ) → 0 < worker → counter_at after worker ≡ counter_at before worker
