@@ -7,10 +7,7 @@ use std::alloc::{AllocError, Global};
 use std::sync::ledger::Ledger;
 
 /// So many counters, each of which stands at 0.
-pub fn counters<L: Ledger>(
-    alloc: Global,
-    count: usize,
-) -> Result<Vec<Option<Steps<L>>>, AllocError>
+pub fn counters<L: Ledger>(alloc: Global, count: usize) -> Result<Vec<Option<Steps<L>>>, AllocError>
     ensures count { IfOk result (λ counters. length counters.items ≡ count) }
     ensures present { IfOk result (λ counters. ArePresent counters.items) }
 {
