@@ -1,5 +1,5 @@
 -- The report of what was computed is the report of the job.
-use Rattle.std.proofs.Common.{◌≡◌, ℕ, List, sym, ◌∙◌, ap}
+use Rattle.std.proofs.Common.{◌≡◌, sym, ◌∙◌, ap}
 use Rattle.std.specs.Prelude.{codes}
 use Rattle.pg_graph.specs.Multigraph.{Multigraph}
 use Rattle.pg_law.specs.declared.values.End.{End}

@@ -1,4 +1,4 @@
-use Rattle.std.proofs.Common.{◌≡◌, sym, ◌∙◌, ap, subst, ℕ, List}
+use Rattle.std.proofs.Common.{◌∙◌, ap, subst, ℕ, List}
 use Rattle.std.specs.Io.KnownBytes.{append_known}
 use Rattle.pg_base.specs.Writing.{SendsFront}
 use Rattle.pg_main.specs.Counters.{FirstTakes}
