@@ -26,7 +26,7 @@ module _ {A : Type 0} (P : A → Type 0) (unit : A) (op : A → A → A) (monoid
   fold_own f a (x ∷ xs) pa all = fold_own f (op a (f x)) xs (monoid.closed a (f x) pa all.0) all.1
 
   -- a start can be taken out in front
-  fold_from : {X : Type 0} (f : X → A) (a : A) (xs : List X) → P a → AllByRecursion (λ x. P (f x)) xs → fold (λ a x. op a (f x)) a xs ≡ op a (total unit op f xs)
+  pub fold_from : {X : Type 0} (f : X → A) (a : A) (xs : List X) → P a → AllByRecursion (λ x. P (f x)) xs → fold (λ a x. op a (f x)) a xs ≡ op a (total unit op f xs)
   fold_from f a [] pa all = sym (right_unit a pa)
   fold_from f a (x ∷ xs) pa all = let rest = total unit op f xs in
       let own_rest = fold_own f unit xs monoid.unit_own all.1 in
@@ -114,6 +114,26 @@ module _ {A : Type 0} (P : A → Type 0) (unit : A) (op : A → A → A) (monoid
   parts_sum_up f place n (x ∷ xs) below all = one_more f place x xs n all.0 all.1 ∙ cond-true (nat_lt (place x) n) _ _ (lt-ltb (place x) n below.0)
       ∙ ap (op (f x)) (parts_sum_up f place n xs below.1 all.1) ∙ sym (total_cons f x xs all.0 all.1)
 
+  each_part_own : {X : Type 0} (f : X → A) (place : X → ℕ) (xs : List X) (ws : List ℕ) → AllByRecursion (λ x. P (f x)) xs → AllByRecursion (λ w. P (total unit op f (part place w xs))) ws
+  each_part_own f place xs [] all = tt
+  each_part_own f place xs (w ∷ ws) all = (fold_own f unit (part place w xs) monoid.unit_own (part_own f place w xs all), each_part_own f place xs ws all)
+
+  -- going through the parts one after another adds their totals
+  part_by_part : {X : Type 0} (f : X → A) (place : X → ℕ) (xs : List X) (a : A) (ws : List ℕ) → P a → AllByRecursion (λ x. P (f x)) xs
+      → fold (λ b w. fold (λ c x. op c (f x)) b (part place w xs)) a ws ≡ fold (λ b w. op b (total unit op f (part place w xs))) a ws
+  part_by_part f place xs a [] pa all = refl
+  part_by_part f place xs a (w ∷ ws) pa all = let own = part_own f place w xs all in
+      ap (λ b. fold (λ b v. fold (λ c x. op c (f x)) b (part place v xs)) b ws) (fold_from f a (part place w xs) pa own)
+      ∙ part_by_part f place xs (op a (total unit op f (part place w xs))) ws (monoid.closed a _ pa (fold_own f unit (part place w xs) monoid.unit_own own)) all
+
+  -- going through the parts one after another, from any start, is going through the list
+  pub parts_in_turn : {X : Type 0} (f : X → A) (place : X → ℕ) (n : ℕ) (a : A) (xs : List X) → P a → AllByRecursion (λ x. place x < n) xs → AllByRecursion (λ x. P (f x)) xs
+      → fold (λ b w. fold (λ c x. op c (f x)) b (part place w xs)) a (range_with_len 0 n) ≡ fold (λ c x. op c (f x)) a xs
+  parts_in_turn f place n a xs pa below all = part_by_part f place xs a (range_with_len 0 n) pa all
+      ∙ fold_from (λ w. total unit op f (part place w xs)) a (range_with_len 0 n) pa (each_part_own f place xs (range_with_len 0 n) all)
+      ∙ ap (op a) (parts_sum_up f place n xs below all)
+      ∙ sym (fold_from f a xs pa all)
+
 module _ {Acc Carry : Type 0} (p : Program Acc Carry) (law : IsLawful p) where
   pub sum_monoid : IsCommutativeMonoid p.IsAcc p.empty p.sum
   sum_monoid = record {
@@ -157,3 +177,10 @@ module _ {Acc Carry : Type 0} (p : Program Acc Carry) (law : IsLawful p) where
   partial_signals g values words became v message place workers edges m below own = let P = IsOptional p.IsMessage in
       ap (join p.combine message) (parts_sum_up P None (join p.combine) join_monoid (signal_to p g values words became v) place workers edges below own)
       ∙ sym (fold_from P None (join p.combine) join_monoid (signal_to p g values words became v) message edges m own)
+
+  -- the signals of the workers' edges, received worker by worker, are those of all edges
+  pub signals_in_turn : (g : Multigraph) (values : List Datum) (words : List ℕ) (became : List (Option (Applied Carry))) (v : ℕ) (message : Option ℕ) (place : ℕ → ℕ) (workers : ℕ) (edges : List ℕ)
+      → IsOptional p.IsMessage message → AllByRecursion (λ e. place e < workers) edges → AllByRecursion (λ e. IsOptional p.IsMessage (signal_to p g values words became v e)) edges
+      → fold (λ m w. with_signals p g values words became v m (part place w edges)) message (range_with_len 0 workers) ≡ with_signals p g values words became v message edges
+  signals_in_turn g values words became v message place workers edges m below own =
+      parts_in_turn (IsOptional p.IsMessage) None (join p.combine) join_monoid (signal_to p g values words became v) place workers message edges m below own

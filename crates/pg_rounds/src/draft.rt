@@ -1,0 +1,105 @@
+//! What a round writes before its end.
+ghost use Rattle.std.specs.Prelude.{◌≡◌, [], ◌∷◌, ◌++◌, ◌<◌, is_some, length, All, IfOk, OnOk, if◌then◌else◌};
+ghost use Rattle.pg_rounds.specs.Visits.{with_change, written};
+
+use pg_law::{Applied, Datum};
+use std::alloc::{AllocError, Global};
+
+/// An edge gets another word.
+#[derive(Clone, Copy, Debug)]
+pub struct Change {
+    pub edge: u32,
+    pub word: u64,
+}
+
+/// What a round writes before its end. The lists are kept from round to round.
+///
+/// `became`, `values` and `messages` have an element for each vertex, `frontier` has the vertices that
+/// execute, ascending, and `changes` the edges whose words change.
+#[derive(Drop)]
+pub struct Draft<C> {
+    pub became: Vec<Option<Applied<C>>>,
+    pub frontier: Vec<u32>,
+    pub values: Vec<Datum>,
+    pub messages: Vec<Option<u64>>,
+    pub changes: Vec<Change>,
+}
+
+impl<C: Copy> Draft<C> {
+    /// An empty draft with room for so many vertices.
+    pub fn with_room(alloc: Global, vertices: u32) -> Result<Draft<C>, AllocError>
+        ensures empty { IfOk result (λ draft. draft.changes.items ≡ []) }
+    {
+        let room = vertices as usize;
+        Ok(Draft {
+            became: Vec::with_capacity(alloc, room)?,
+            frontier: Vec::with_capacity(alloc, room)?,
+            values: Vec::with_capacity(alloc, room)?,
+            messages: Vec::with_capacity(alloc, room)?,
+            changes: Vec::new(alloc),
+        })
+    }
+
+    /// Empties it, and keeps the room.
+    pub fn clear(&mut self)
+        ensures became { self.new.became.items ≡ [] }
+        ensures frontier { self.new.frontier.items ≡ [] }
+        ensures values { self.new.values.items ≡ [] }
+        ensures messages { self.new.messages.items ≡ [] }
+        ensures changes { self.new.changes.items ≡ [] }
+    {
+        self.became.clear();
+        self.frontier.clear();
+        self.values.clear();
+        self.messages.clear();
+        self.changes.clear();
+    }
+
+    /// Adds what the next vertex becomes, and its datum and message after that.
+    pub fn add(
+        &mut self,
+        v: u32,
+        became: Option<Applied<C>>,
+        datum: Datum,
+        message: Option<u64>,
+    ) -> Result<(), AllocError>
+        ensures became { OnOk result (self.new.became.items ≡ self.old.became.items ++ became ∷ []) }
+        ensures frontier { OnOk result (self.new.frontier.items ≡ (if is_some became then self.old.frontier.items ++ v ∷ [] else self.old.frontier.items)) }
+        ensures values { OnOk result (self.new.values.items ≡ self.old.values.items ++ datum ∷ []) }
+        ensures messages { OnOk result (self.new.messages.items ≡ self.old.messages.items ++ message ∷ []) }
+        ensures changes { self.new.changes.items ≡ self.old.changes.items }
+    {
+        if became.is_some() {
+            self.frontier.push(v)?;
+        }
+        self.became.push(became)?;
+        self.values.push(datum)?;
+        self.messages.push(message)?;
+        Ok(())
+    }
+}
+
+/// Notes the new word of an edge, where it is another one.
+pub fn note_change(
+    changes: &mut Vec<Change>,
+    edge: u32,
+    old: u64,
+    new: u64,
+) -> Result<(), AllocError>
+    ensures { OnOk result (changes.new.items ≡ with_change changes.old.items edge old new) }
+{
+    if old != new {
+        changes.push(Change { edge, word: new })?;
+    }
+    Ok(())
+}
+
+/// Makes the changes, in order.
+pub fn make_changes(words: &mut [u64], changes: &[Change])
+    requires { All (λ change. change.edge < length words.old) changes.now }
+    ensures { words.new ≡ written words.old changes.now }
+{
+    for change in changes {
+        words[change.edge as usize] = change.word;
+    }
+}
