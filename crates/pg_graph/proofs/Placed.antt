@@ -1,0 +1,186 @@
+-- Edges by the places of their ends: as ids are added, and as they are sorted.
+use Rattle.std.proofs.Common.{◌≡◌, ◌≢◌, ℕ, zero, suc, ◌+◌, ◌<◌, ◌≤◌, ◌^◌, Bool, true, false, cond, List, [], ◌∷◌, ◌++◌, length, get_or, take, refl, sym, ◌∙◌, ap, inl, inr, arith}
+use Rattle.std.specs.Prelude.{nat_eq, All, IfSome, IfOk, Result, Ok, Err, is_err, Option, Some, None, map, position, slice_get}
+use Rattle.std.specs.List.{list_any}
+use Rattle.std.specs.List.Sorted.{IsPermutation, IsStrictlyIncreasing}
+use Rattle.std.specs.Cmp.{nat_eq_equiv}
+use Rattle.std.proofs.lemmas.Bool.{cases_Bool, cases_lt, eqb-true, ne_eqb}
+use Rattle.std.proofs.lemmas.List.{length_push, length-map, get_or-map, get_or_append_left, get_or_push, get_or-take, length-take-le, map_push}
+use Rattle.std.proofs.lemmas.List.Elements.{All-head, All-tail, All-push, All-map, Contains-get_or}
+use Rattle.std.proofs.lemmas.List.Quantifiers.{position-Some}
+use Rattle.std.proofs.lemmas.List.Sorted.{All-permutation, length_permutation, list_any-IsPermutation}
+use Rattle.std.proofs.lemmas.Map.Views.{list_any-from_Contains}
+use Rattle.std.proofs.lemmas.Option.{get_or_from_slice_get}
+use Rattle.pg_base.specs.declared.limits.Limits.{Limits}
+use Rattle.pg_graph.specs.declared.builder.NamedEdge.{NamedEdge}
+use Rattle.pg_graph.specs.declared.edge.Edge.{Edge}
+use Rattle.pg_graph.specs.Multigraph.{IsMultigraph, multigraph, IsEdge, no_edge}
+use Rattle.pg_graph.specs.Building.{Building, building, with_id, ids_with, with_vertex, with_edge, named_edge, named, renumbered, IsNamedEdge, IsBuilding, IsKept, IsPlaced, StandsAt, AreRanks}
+use Rattle.pg_graph.proofs.Built.{distinct_with, all_with, named_still, built_more, among, numbered}
+
+-- what holds of a success
+pub from_ok : {X E : Type 0} (r : Result X E) (Q : Type 0) → is_err r ≡ false → IfOk r (λ x. Q) → Q
+from_ok (Ok x) Q h holds = holds
+from_ok (Err e) Q h holds = absurd (cc)
+
+-- a place that a search found
+pub found_at : (ids : List ℕ) (id : ℕ) (r : Option ℕ) → r ≡ position (nat_eq id) ids → IfSome r (λ place. StandsAt ids id place)
+found_at ids id None is = tt
+found_at ids id (Some place) is =
+    let at = position-Some (nat_eq id) ids place 0 (sym is) in
+    record { within = at.0; found = sym (eqb-true id (get_or ids place 0) at.1) }
+
+-- a place where an equal id is stored
+pub stored_at : (ids : List ℕ) (id place stored : ℕ) → place < length ids → slice_get ids place ≡ Some stored → nat_eq id stored ≡ true → StandsAt ids id place
+stored_at ids id place stored within is same = record { within = within; found = get_or_from_slice_get ids place stored 0 is ∙ sym (eqb-true id stored same) }
+
+-- the ids stay at their places
+pub longer_with : (ids : List ℕ) (id : ℕ) → length ids ≤ length (with_id ids id)
+longer_with ids id = elim (cases_Bool (list_any (nat_eq id) ids)) [
+  | inl here ↦ rw here (omega arith)
+  | inr absent ↦ rw absent (omega (arith, length_push ids id))
+]
+
+pub still_at : (ids : List ℕ) (other place : ℕ) → place < length ids → get_or (with_id ids other) place 0 ≡ get_or ids place 0
+still_at ids other place within = elim (cases_Bool (list_any (nat_eq other) ids)) [
+  | inl here ↦ rw here refl
+  | inr absent ↦ rw absent (get_or_append_left ids (other ∷ []) 0 place within)
+]
+
+pub stands_still : (ids : List ℕ) (other id place : ℕ) → StandsAt ids id place → StandsAt (with_id ids other) id place
+stands_still ids other id place at = record { within = omega (arith, at.within, longer_with ids other); found = still_at ids other place at.within ∙ at.found }
+
+-- two functions that agree on a list
+map_same : {X Y : Type 0} (f g : X → Y) (xs : List X) → All (λ x. f x ≡ g x) xs → map f xs ≡ map g xs
+map_same f g [] each = refl
+map_same {X} f g (x ∷ xs) each = let P : X → Type 0 = λ y. f y ≡ g y in ap (λ y. y ∷ map f xs) (All-head P x xs each) ∙ ap (λ ys. g x ∷ ys) (map_same f g xs (All-tail P x xs each))
+
+pub placed_with : (ids : List ℕ) (id : ℕ) (edges : List Edge) → All (IsPlaced ids) edges → All (IsPlaced (with_id ids id)) edges
+placed_with ids id edges each = λ k d h. let edge = each k d h in record { src = omega (arith, edge.src, longer_with ids id); dst = omega (arith, edge.dst, longer_with ids id) }
+
+-- and so the edges keep their names
+pub names_with : (ids : List ℕ) (id : ℕ) (edges : List Edge) → All (IsPlaced ids) edges → map (named (with_id ids id)) edges ≡ map (named ids) edges
+names_with ids id edges each = map_same (named (with_id ids id)) (named ids) edges (λ k d h.
+    let edge = each k d h in
+    ap (λ n. named_edge n (get_or (with_id ids id) (get_or edges k d).dst 0) (get_or edges k d).weight) (still_at ids id (get_or edges k d).src edge.src)
+    ∙ ap (λ n. named_edge (get_or ids (get_or edges k d).src 0) n (get_or edges k d).weight) (still_at ids id (get_or edges k d).dst edge.dst))
+
+-- one more id
+pub kept_with : (limits : Limits) (ids : List ℕ) (id : ℕ) (edges : List Edge) (loops : ℕ) → IsKept limits ids edges loops → id < 2 ^ 32 → length (with_id ids id) ≤ limits.vertices → IsKept limits (with_id ids id) edges loops
+kept_with limits ids id edges loops kept small fits =
+    let old = kept.building in
+    let Small : ℕ → Type 0 = λ id. id < 2 ^ 32 in
+    record {
+      building = rw (names_with ids id edges kept.placed) (record {
+        limits = old.limits;
+        distinct = distinct_with ids id old.distinct;
+        id = all_with Small ids id old.id small;
+        edges = λ k d h. named_still ids id (get_or (map (named ids) edges) k d) (old.edges k d h);
+        vertex_count = fits;
+        edge_count = old.edge_count;
+      });
+      placed = placed_with ids id edges kept.placed;
+    }
+
+-- one more id below the limit
+pub with_within : (ids : List ℕ) (id limit : ℕ) → length ids < limit → length (with_id ids id) ≤ limit
+with_within ids id limit room = elim (cases_Bool (list_any (nat_eq id) ids)) [
+  | inl here ↦ rw here (omega arith)
+  | inr absent ↦ rw absent (omega (arith, length_push ids id))
+]
+
+pub viewed_with : (limits : Limits) (ids keys : List ℕ) (id : ℕ) (edges : List Edge) (loops : ℕ) → keys ≡ with_id ids id → All (IsPlaced ids) edges
+    → building limits keys (map (named keys) edges) loops ≡ with_vertex (building limits ids (map (named ids) edges) loops) id
+viewed_with limits ids keys id edges loops is placed =
+    ap (λ ks. building limits ks (map (named ks) edges) loops) is ∙ ap (λ es. building limits (with_id ids id) es loops) (names_with ids id edges placed)
+
+-- one more edge
+module _ (ids : List ℕ) (src dst : ℕ) (edges : List Edge) (placed : All (IsPlaced ids) edges) (edge : Edge) (src_at : StandsAt (ids_with ids src dst) src edge.src) (dst_at : StandsAt (ids_with ids src dst) dst edge.dst) where
+  pub names_more : map (named (ids_with ids src dst)) (edges ++ edge ∷ []) ≡ map (named ids) edges ++ named_edge src dst edge.weight ∷ []
+  names_more =
+      let here = ap (λ n. named_edge n (get_or (ids_with ids src dst) edge.dst 0) edge.weight) src_at.found ∙ ap (λ n. named_edge src n edge.weight) dst_at.found in
+      map_push (named (ids_with ids src dst)) edges edge
+      ∙ ap (λ xs. xs ++ named (ids_with ids src dst) edge ∷ []) (names_with (with_id ids src) dst edges (placed_with ids src edges placed) ∙ names_with ids src edges placed)
+      ∙ ap (λ x. map (named ids) edges ++ x ∷ []) here
+
+  pub placed_more : All (IsPlaced (ids_with ids src dst)) (edges ++ edge ∷ [])
+  placed_more = All-push (IsPlaced (ids_with ids src dst)) edges edge (placed_with (with_id ids src) dst edges (placed_with ids src edges placed)) (record { src = src_at.within; dst = dst_at.within })
+
+pub kept_more : (limits : Limits) (ids : List ℕ) (edges : List Edge) (loops src dst : ℕ) (edge : Edge) → IsKept limits ids edges loops → src < 2 ^ 32 → dst < 2 ^ 32 → edge.weight < 2 ^ 32 → src ≢ dst
+    → StandsAt (ids_with ids src dst) src edge.src → StandsAt (ids_with ids src dst) dst edge.dst → length (ids_with ids src dst) ≤ limits.vertices → length edges < limits.edges
+    → IsKept limits (ids_with ids src dst) (edges ++ edge ∷ []) loops
+kept_more limits ids edges loops src dst edge kept s d w apart src_at dst_at fits room = record {
+  building = rw (names_more ids src dst edges kept.placed edge src_at dst_at) (built_more limits ids (map (named ids) edges) loops src dst edge.weight kept.building s d w apart fits (omega (arith, length-map edges (named ids))));
+  placed = placed_more ids src dst edges kept.placed edge src_at dst_at;
+}
+
+-- the same of the lists that a builder has then
+module _ (limits : Limits) (ids keys : List ℕ) (edges room items : List Edge) (loops src dst : ℕ) (edge : Edge) (keys_are : keys ≡ ids_with ids src dst) (room_is : room ≡ edges) (items_are : items ≡ room ++ edge ∷ []) (kept : IsKept limits ids edges loops)
+    (apart : src ≢ dst) (src_at : StandsAt keys src edge.src) (dst_at : StandsAt keys dst edge.dst) where
+  pub kept_then : src < 2 ^ 32 → dst < 2 ^ 32 → edge.weight < 2 ^ 32 → length (ids_with ids src dst) ≤ limits.vertices → length edges < limits.edges → IsKept limits keys items loops
+  kept_then s d w fits below = rw (keys_are, items_are, room_is) (kept_more limits ids edges loops src dst edge kept s d w apart (rw keys_are at src_at) (rw keys_are at dst_at) fits below)
+
+  pub viewed_then : building limits keys (map (named keys) items) loops ≡ with_edge (building limits ids (map (named ids) edges) loops) src dst edge.weight
+  viewed_then =
+      let before = building limits ids (map (named ids) edges) loops in
+      let after = building limits (ids_with ids src dst) (map (named ids) edges ++ named_edge src dst edge.weight ∷ []) loops in
+      ap (λ ks. building limits ks (map (named ks) items) loops) keys_are ∙ ap (λ es. building limits (ids_with ids src dst) (map (named (ids_with ids src dst)) es) loops) (items_are ∙ ap (λ es. es ++ edge ∷ []) room_is)
+      ∙ ap (λ es. building limits (ids_with ids src dst) es loops) (names_more ids src dst edges kept.placed edge (rw keys_are at src_at) (rw keys_are at dst_at))
+      ∙ sym (ap (λ b. cond b (building limits (with_id ids src) (map (named ids) edges) (loops + 1)) after) (ne_eqb src dst apart))
+
+-- each id is found among the sorted ids
+pub sorted_has : (ids sorted : List ℕ) (place : ℕ) → IsPermutation ids sorted → place < length ids → list_any (nat_eq (get_or ids place 0)) sorted ≡ true
+sorted_has ids sorted place same within =
+    sym (list_any-IsPermutation (nat_eq (get_or ids place 0)) ids sorted same) ∙ list_any-from_Contains nat_eq_equiv (get_or ids place 0) ids (Contains-get_or ids place 0 within)
+
+-- one more rank
+pub ranks_more : (ids sorted ranks now : List ℕ) (i rank : ℕ) → i < length ids → AreRanks (take i ids) sorted ranks → rank < length sorted → get_or sorted rank 0 ≡ get_or ids i 0 → now ≡ ranks ++ rank ∷ [] → AreRanks (take (i + 1) ids) sorted now
+ranks_more ids sorted ranks now i rank inside so_far within found is =
+    let before = length-take-le i ids (omega arith) in
+    let after = length-take-le (i + 1) ids (omega arith) in
+    let count = so_far.count in
+    record {
+      count = omega (arith, ap length is, length_push ranks rank);
+      rank = λ place h. elim (cases_lt place i) [
+        | inl below ↦
+            let old = so_far.rank place (omega arith) in
+            let same_rank = ap (λ xs. get_or xs place 0) is ∙ get_or_append_left ranks (rank ∷ []) 0 place (omega arith) in
+            let same_id = get_or-take i ids place 0 below in
+            let same_id_now = get_or-take (i + 1) ids place 0 (omega arith) in
+            record { within = omega (arith, old.within); found = ap (λ k. get_or sorted k 0) same_rank ∙ old.found ∙ same_id ∙ sym same_id_now }
+        | inr last ↦
+            let here : place ≡ i = omega arith in
+            let rank_is = ap (λ xs. get_or xs place 0) is ∙ get_or_push ranks rank 0 place (omega arith) in
+            let id_is = get_or-take (i + 1) ids place 0 (omega arith) in
+            record { within = omega arith; found = ap (λ k. get_or sorted k 0) rank_is ∙ found ∙ ap (λ k. get_or ids k 0) (sym here) ∙ sym id_is }
+      ];
+    }
+
+-- edges that are numbered by the ranks of their ends keep their names
+module _ (ids sorted ranks : List ℕ) (are : AreRanks ids sorted ranks) where
+  pub names_sorted : (edges : List Edge) → All (IsPlaced ids) edges → map (named sorted) (map (renumbered ranks) edges) ≡ map (named ids) edges
+  names_sorted [] each = refl
+  names_sorted (edge ∷ edges) each =
+      let placed = All-head (IsPlaced ids) edge edges each in
+      let src = (are.rank edge.src placed.src).found in
+      let dst = (are.rank edge.dst placed.dst).found in
+      let here = ap (λ n. named_edge n (get_or sorted (get_or ranks edge.dst 0) 0) edge.weight) src ∙ ap (λ n. named_edge (get_or ids edge.src 0) n edge.weight) dst in
+      ap (λ x. x ∷ map (named sorted) (map (renumbered ranks) edges)) here ∙ ap (λ xs. named ids edge ∷ xs) (names_sorted edges (All-tail (IsPlaced ids) edge edges each))
+
+  pub placed_sorted : (edges : List Edge) → All (IsPlaced ids) edges → All (IsPlaced sorted) (map (renumbered ranks) edges)
+  placed_sorted edges each = All-map (IsPlaced sorted) (renumbered ranks) edges (λ k d h.
+      let edge = each k d h in
+      record { src = (are.rank (get_or edges k d).src edge.src).within; dst = (are.rank (get_or edges k d).dst edge.dst).within })
+
+  pub placed_ranks : (edges : List Edge) → All (IsPlaced ids) edges → All (IsPlaced ranks) edges
+  placed_ranks edges each = λ k d h. let edge = each k d h in record { src = omega (arith, edge.src, are.count); dst = omega (arith, edge.dst, are.count) }
+
+-- and they are the edges of a graph
+pub finished : (b : Building) → IsBuilding b → (ids : List ℕ) (edges : List Edge) → IsPermutation b.ids ids → IsStrictlyIncreasing ids → map (named ids) edges ≡ b.edges → All (IsPlaced ids) edges → IsMultigraph (multigraph ids edges b.loops)
+finished b kept ids edges same increases names placed =
+    numbered b kept ids same increases edges names (λ k d h.
+    let edge = placed k d h in
+    let at = among b kept ids same k (named ids d) (omega (arith, ap length names, length-map edges (named ids))) in
+    let read : get_or b.edges k (named ids d) ≡ named ids (get_or edges k d) = ap (λ xs. get_or xs k (named ids d)) (sym names) ∙ get_or-map (named ids) edges k d (named ids d) h in
+    let known = rw read at at in
+    record { src = edge.src; dst = edge.dst; apart = λ e. known.apart (ap (λ n. get_or ids n 0) e); weight = known.weight })
