@@ -1,0 +1,4 @@
+pub mod Errors
+pub mod Events
+pub mod Reading
+pub mod Texts
