@@ -1,6 +1,6 @@
 -- Pairs are totally ordered, and a longer path gives no smaller pair.
-use Rattle.std.proofs.Common.{◌≡◌, ℕ, ◌<◌, ◌≤◌, Bool, true, false, cond, ◌==◌, refl, sym, ap, ◌∙◌, arith}
-use Rattle.std.proofs.lemmas.Bool.{true≢false, eqb-true}
+use Rattle.std.proofs.Common.{◌≡◌, ℕ, ◌≤◌, Bool, true, false, cond, ◌==◌, refl, sym, ap, ◌∙◌, arith}
+use Rattle.std.proofs.lemmas.Bool.{true≢false}
 use Rattle.std.proofs.lemmas.Bool.Decides.{nat_tests}
 use Rattle.pg_law.specs.declared.values.Datum.{Datum}
 use Rattle.pg_law.specs.Values.{two}
@@ -47,8 +47,10 @@ smaller_assoc a b c = chosen (is_below b a) (is_below c b) refl refl
   where
     left : (x : Datum) → smaller_pair a b ≡ x → smaller_pair (smaller_pair a b) c ≡ smaller_pair x c
     left x e = ap (λ y. smaller_pair y c) e
+
     right : (x : Datum) → smaller_pair b c ≡ x → smaller_pair a (smaller_pair b c) ≡ smaller_pair a x
     right x e = ap (λ y. smaller_pair a y) e
+
     chosen : (ba cb : Bool) → is_below b a ≡ ba → is_below c b ≡ cb → smaller_pair (smaller_pair a b) c ≡ smaller_pair a (smaller_pair b c)
     chosen true true h k = left b (smaller_right a b h) ∙ smaller_right b c k ∙ sym (right c (smaller_right b c k) ∙ smaller_right a c (below_trans c b a k h))
     chosen true false h k = left b (smaller_right a b h) ∙ smaller_left b c k ∙ sym (right b (smaller_left b c k) ∙ smaller_right a b h)
@@ -88,8 +90,9 @@ via_not_below new old weight id own h = chosen (plus old weight == greatest) (pl
   where
     longer : (x y : ℕ) → x ≤ y → is_below (two y id) (two x id) ≡ false
     longer x y le = grind (arith, nat_tests)
+
     chosen : (old_none new_none : Bool) → (plus old weight == greatest) ≡ old_none → (plus new weight == greatest) ≡ new_none
-      → is_below (cond old_none unreached (two (plus old weight) id)) (cond new_none unreached (two (plus new weight) id)) ≡ false
+        → is_below (cond old_none unreached (two (plus old weight) id)) (cond new_none unreached (two (plus new weight) id)) ≡ false
     chosen true true e f = refl
     chosen true false e f = above_all _ (record { first = plus_own new weight; second = own })
     chosen false true e f = grind (arith, nat_tests)
@@ -104,6 +107,7 @@ smaller_first a b = chosen (is_below b a) refl
   where
     shorter : (x y : Datum) → is_below y x ≡ true → y.first ≤ x.first
     shorter x y h = grind (arith, nat_tests)
+
     chosen : (ba : Bool) → is_below b a ≡ ba → (cond ba b a).first ≤ a.first
     chosen true h = shorter a b h
     chosen false h = omega arith

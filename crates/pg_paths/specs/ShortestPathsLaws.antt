@@ -1,4 +1,4 @@
-use Rattle.std.proofs.Common.{◌≡◌, ℕ, ◌≤◌, min, ◌==◌, refl, sym, ap, arith}
+use Rattle.std.proofs.Common.{ℕ, ◌≤◌, min, ◌==◌, refl, sym, ap, arith}
 use Rattle.std.specs.Prelude.{nat_lt}
 use Rattle.std.proofs.lemmas.Bool.{eqb-true}
 use Rattle.pg_law.specs.Laws.{IsLawful, IsClosed, IsMonoidal, KeepsGathers}
@@ -49,7 +49,7 @@ keep source = record {
   change = λ near old acc message h ho ha hm g. record {
     leads = let new = min old.first (min acc message) in let weight = near.edge.weight in
         leads_where_changed (λ a b. min a b) (plus old.first weight) (plus new weight) (new == old.first)
-            (λ same. ap (λ d. plus d weight) (sym (eqb-true new old.first same))) (omega arith);
+        (λ same. ap (λ d. plus d weight) (sym (eqb-true new old.first same))) (omega arith);
   };
 }
 

@@ -1,5 +1,5 @@
 -- A tree of shortest paths from a source: the least length, and the vertex before.
-use Rattle.std.specs.Prelude.{ℕ, Bool, true, false, not, ◌==◌, min, Some, None, cond}
+use Rattle.std.specs.Prelude.{ℕ, Bool, true, not, ◌==◌, min, Some, None, cond}
 use Rattle.pg_graph.specs.declared.edge.Dir.TheVariants.{InEdges, OutEdges}
 use Rattle.pg_graph.specs.declared.edge.VertexInfo.{VertexInfo}
 use Rattle.pg_graph.specs.declared.edge.EdgeInfo.{EdgeInfo}

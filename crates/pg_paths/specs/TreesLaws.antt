@@ -1,4 +1,4 @@
-use Rattle.std.proofs.Common.{◌≡◌, ℕ, ◌≤◌, Bool, true, false, cond, min, ◌==◌, refl, sym, ap, arith}
+use Rattle.std.proofs.Common.{ℕ, ◌≤◌, Bool, true, false, cond, ◌==◌, refl, sym, ap, arith}
 use Rattle.std.proofs.lemmas.Bool.{eqb-true}
 use Rattle.pg_graph.specs.declared.edge.VertexInfo.{VertexInfo}
 use Rattle.pg_graph.specs.Multigraph.{IsVertexInfo}
@@ -66,8 +66,8 @@ module _ (source : ℕ) where
       leads = let v = info_at near.side near.edge in
           let new = reached source v old acc in
           leads_where_changed smaller_pair (offered near.edge old) (offered near.edge new) (new.first == old.first)
-              (λ same. ap (λ length. via length near.edge.weight near.edge.src.id) (sym (eqb-true new.first old.first same)))
-              (via_joined new.first old.first near.edge.weight near.edge.src.id (omega (arith, h.edge.src.id)) (reached_first v old acc));
+          (λ same. ap (λ length. via length near.edge.weight near.edge.src.id) (sym (eqb-true new.first old.first same)))
+          (via_joined new.first old.first near.edge.weight near.edge.src.id (omega (arith, h.edge.src.id)) (reached_first v old acc));
     };
   }
 

@@ -2,8 +2,8 @@
 ghost use Rattle.std.specs.Prelude.{◌≡◌};
 ghost use Rattle.pg_paths.specs.Trees.{offered as offered_over};
 
-use crate::pair::{is_below, smaller, unreached, via};
 use crate::length::plus;
+use crate::pair::{is_below, smaller, unreached, via};
 use pg_graph::{Dir, EdgeInfo, VertexInfo};
 use pg_law::{Applied, Datum, Delta, Near, Scattered, Started, Steps, VertexProgram};
 use std::alloc::{AllocError, Global};

@@ -1,0 +1,9 @@
+//! PageRank as a vertex program, in fixed point.
+#![tactic(auto)]
+
+mod page_rank;
+
+pub use page_rank::{Change, PageRank, UNIT};
+
+#[cfg(test)]
+mod tests;
