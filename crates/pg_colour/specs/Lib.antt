@@ -1,0 +1,4 @@
+pub mod Colours
+pub mod Colouring
+pub mod ColoursLaws
+pub mod ColouringLaws

@@ -1,0 +1,8 @@
+//! Greedy colouring as a vertex program.
+#![tactic(auto)]
+
+mod colour;
+mod colours;
+
+pub use colour::Colour;
+pub use colours::Colours;
