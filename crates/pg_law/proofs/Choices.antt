@@ -33,7 +33,7 @@ posted_own P false d own = tt
 
 -- the new gather is posted where the datum changed; where it didn't, the gather is the old one
 pub leads_where_changed : {A : Type 0} (sum : A → A → A) (before after : A) (same : Bool) → (same ≡ true → before ≡ after) → sum before after ≡ after
-  → LeadsTo sum before (cond (not same) (Add after) Nothing) after
+    → LeadsTo sum before (cond (not same) (Add after) Nothing) after
 leads_where_changed sum before after true kept joined = kept refl
 leads_where_changed sum before after false kept joined = joined
 
