@@ -6,3 +6,6 @@ mod colours;
 
 pub use colour::Colour;
 pub use colours::Colours;
+
+#[cfg(test)]
+mod tests;
