@@ -29,7 +29,7 @@ word_at low [] own j lt = absurd (omega arith)
 word_at low (x ∷ xs) own zero lt = own.1
 word_at low (x ∷ xs) own (suc j) lt = word_at (x + 1) xs own.2 j (omega arith)
 
-has_at : (xs : List ℕ) (i : ℕ) → i < length xs → has xs (get_or xs i 0) ≡ true
+pub has_at : (xs : List ℕ) (i : ℕ) → i < length xs → has xs (get_or xs i 0) ≡ true
 has_at [] i lt = absurd (omega arith)
 has_at (x ∷ xs) zero lt = has_first x xs
 has_at (x ∷ xs) (suc i) lt = ap (λ b. (x == get_or xs i 0) || b) (has_at xs i (omega arith)) ∙ or_comm (x == get_or xs i 0) true

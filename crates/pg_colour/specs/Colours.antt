@@ -1,5 +1,5 @@
 -- Sets of colours, as ascending lists.
-use Rattle.std.specs.Prelude.{ℕ, ◌+◌, ◌<◌, ◌≤◌, ◌^◌, Bool, false, cond, ◌||◌, ◌==◌, nat_lt, List, [], ◌∷◌, fold}
+use Rattle.std.specs.Prelude.{◌≡◌, ℕ, ◌+◌, ◌<◌, ◌≤◌, ◌^◌, Bool, true, false, cond, ◌||◌, ◌==◌, nat_lt, List, [], ◌∷◌, fold}
 
 -- strictly ascending words, the first of them no less than `low`
 abbrev pub AreColoursFrom : ℕ → List ℕ → Type 0
@@ -13,6 +13,9 @@ AreColours xs = AreColoursFrom 0 xs
 abbrev pub has : List ℕ → ℕ → Bool
 has [] c = false
 has (x ∷ xs) c = (x == c) || has xs c
+
+abbrev pub ContainsAll : List ℕ → List ℕ → Type 0
+ContainsAll xs ys = (c : ℕ) → has ys c ≡ true → has xs c ≡ true
 
 -- with one more colour, at its place, and unchanged where it is there
 abbrev pub with_colour : List ℕ → ℕ → List ℕ

@@ -1,6 +1,6 @@
 //! Sets of colours.
 ghost use Rattle.std.specs.Prelude.{◌≡◌, ℕ, ◌<◌, true, false, [], ◌∷◌, IfOk, OnOk, OnErr, IsOk};
-ghost use Rattle.pg_colour.specs.Colours.{AreColours, has, with_colour, union, gap_from, least_free as least_free_of};
+ghost use Rattle.pg_colour.specs.Colours.{AreColours, ContainsAll, has, with_colour, union, gap_from, least_free as least_free_of};
 
 use std::alloc::{AllocError, Global};
 use std::marker::Model;
@@ -67,11 +67,13 @@ impl Colours {
         Ok(())
     }
 
-    /// Adds the colours of another set. After want of memory some of them may be in.
+    /// Adds the colours of another set. Where all are there already it takes no memory; after want
+    /// of memory some of them may be in.
     pub fn add_all(&mut self, other: &Colours) -> Result<(), AllocError>
         requires own { AreColours self.old }
         requires other { AreColours other.now }
-        ensures { OnOk result (self.new ≡ union self.old other.now) }
+        ensures ok { OnOk result (self.new ≡ union self.old other.now) }
+        ensures known { ContainsAll self.old other.now → IsOk result }
     {
         for &colour in &other.items {
             self.add(colour)?;

@@ -1,7 +1,9 @@
-use Rattle.std.proofs.Common.{get_or, sym, ap, ◌∙◌, arith}
-use Rattle.pg_colour.specs.Colours.{with_colour}
-use Rattle.pg_colour.specs.ColoursLaws.{with_own}
-use Rattle.pg_colour.proofs.Searching.{union_more}
+use Rattle.std.proofs.Common.{◌≡◌, true, get_or, take, sym, ap, ◌∙◌, arith}
+use Rattle.std.specs.Prelude.{◌||◌}
+use Rattle.std.proofs.lemmas.Bool.{true≢false}
+use Rattle.pg_colour.specs.Colours.{has, with_colour}
+use Rattle.pg_colour.specs.ColoursLaws.{with_own, has_union}
+use Rattle.pg_colour.proofs.Searching.{union_more, has_at}
 use Rattle.pg_colour.proofs.colours.Colours.add_all.Goals as goal
 
 pub loop-colour-preserved : goal.loop-colour-preserved
@@ -12,3 +14,11 @@ loop-colour-preserved c = let colours = c.deref-colour-items.result.now in
       own = rw c.in_ok-add.ensures.ok (with_own 0 set (get_or colours i 0) c.loop-colour.invariant.own (omega arith) (omega (arith, c.type_inv.colour-items i)));
       so_far = c.in_ok-add.ensures.ok ∙ ap (λ xs. with_colour xs (get_or colours i 0)) c.loop-colour.invariant.so_far ∙ sym (union_more c.args.self.now colours i c.loop-colour-test.true);
     }
+
+pub returns-in_err-add-clause-known : goal.returns-in_err-add-clause-known
+returns-in_err-add-clause-known c = let colours = c.deref-colour-items.result.now in
+    let i = c.loop-colour.colour-index in
+    let colour = get_or colours i 0 in
+    let there : has c.args.other.now colour ≡ true = ap (λ xs. has xs colour) (sym (c.deref-colour-items.ensures.value ∙ c.other.view_is)) ∙ has_at colours i c.loop-colour-test.true in
+    λ all. absurd (true≢false (sym (c.in_err-add.ensures.known (ap (λ xs. has xs colour) c.loop-colour.invariant.so_far ∙ has_union c.args.self.now (take i colours) colour
+      ∙ ap (λ b. b || has (take i colours) colour) (all colour there)))))
