@@ -61,7 +61,7 @@ pub fn read_lines<S: Source>(
     ensures fault { IsErrOf result InputError.ReadFault → HasRisen (S.faults source.old) (S.faults source.new) }
     ensures counted { S.faults source.old ≤ S.faults source.new }
 {
-    let mut builder = GraphBuilder::new(alloc, limits);
+    let mut builder = GraphBuilder::new(alloc, limits)?;
     let mut number = 0;
     loop {
         let line = match cutter.line(source, limits.bytes) {
