@@ -1,5 +1,5 @@
 -- Edges by the places of their ends: as ids are added, and as they are sorted.
-use Rattle.std.proofs.Common.{◌≡◌, ◌≢◌, ℕ, zero, suc, ◌+◌, ◌<◌, ◌≤◌, ◌^◌, Bool, true, false, cond, List, [], ◌∷◌, ◌++◌, length, get_or, take, refl, sym, ◌∙◌, ap, inl, inr, arith}
+use Rattle.std.proofs.Common.{◌≡◌, ◌≢◌, ℕ, ◌+◌, ◌<◌, ◌≤◌, ◌^◌, true, false, cond, List, [], ◌∷◌, ◌++◌, length, get_or, take, refl, sym, ◌∙◌, ap, inl, inr, arith}
 use Rattle.std.specs.Prelude.{nat_eq, All, IfSome, IfOk, Result, Ok, Err, is_err, Option, Some, None, map, position, slice_get}
 use Rattle.std.specs.List.{list_any}
 use Rattle.std.specs.List.Sorted.{IsPermutation, IsStrictlyIncreasing}
@@ -8,14 +8,13 @@ use Rattle.std.proofs.lemmas.Bool.{cases_Bool, cases_lt, eqb-true, ne_eqb}
 use Rattle.std.proofs.lemmas.List.{length_push, length-map, get_or-map, get_or_append_left, get_or_push, get_or-take, length-take-le, map_push}
 use Rattle.std.proofs.lemmas.List.Elements.{All-head, All-tail, All-push, All-map, Contains-get_or}
 use Rattle.std.proofs.lemmas.List.Quantifiers.{position-Some}
-use Rattle.std.proofs.lemmas.List.Sorted.{All-permutation, length_permutation, list_any-IsPermutation}
+use Rattle.std.proofs.lemmas.List.Sorted.{list_any-IsPermutation}
 use Rattle.std.proofs.lemmas.Map.Views.{list_any-from_Contains}
 use Rattle.std.proofs.lemmas.Option.{get_or_from_slice_get}
 use Rattle.pg_base.specs.declared.limits.Limits.{Limits}
-use Rattle.pg_graph.specs.declared.builder.NamedEdge.{NamedEdge}
 use Rattle.pg_graph.specs.declared.edge.Edge.{Edge}
-use Rattle.pg_graph.specs.Multigraph.{IsMultigraph, multigraph, IsEdge, no_edge}
-use Rattle.pg_graph.specs.Building.{Building, building, with_id, ids_with, with_vertex, with_edge, named_edge, named, renumbered, IsNamedEdge, IsBuilding, IsKept, IsPlaced, StandsAt, AreRanks}
+use Rattle.pg_graph.specs.Multigraph.{IsMultigraph, multigraph}
+use Rattle.pg_graph.specs.Building.{Building, building, with_id, ids_with, with_vertex, with_edge, named_edge, named, renumbered, IsBuilding, IsKept, IsPlaced, StandsAt, AreRanks}
 use Rattle.pg_graph.proofs.Built.{distinct_with, all_with, named_still, built_more, among, numbered}
 
 -- what holds of a success
