@@ -1,1 +1,3 @@
 pub mod Visits
+pub mod Rising
+pub mod RisingLaws
