@@ -10,3 +10,6 @@ mod part;
 pub use error::{InputError, Which};
 pub use graph::read_graph;
 pub use part::{Part, read_part};
+
+#[cfg(test)]
+mod tests;
