@@ -24,18 +24,23 @@ gap_free_from n (x ∷ xs) own = chosen (x == n) refl (gap_free_from (n + 1) xs)
     other : (x n : ℕ) → n ≤ x → (x == n) ≡ false → n < x
     other x n le e = grind (arith, nat_tests)
 
-    chosen : (same : Bool) → (x == n) ≡ same → (AreColoursFrom (n + 1) xs → has xs (gap_from (n + 1) xs) ≡ false) → has (x ∷ xs) (cond same (gap_from (n + 1) xs) n) ≡ false
+    chosen : (same : Bool) → (x == n) ≡ same
+        → (AreColoursFrom (n + 1) xs → has xs (gap_from (n + 1) xs) ≡ false)
+        → has (x ∷ xs) (cond same (gap_from (n + 1) xs) n) ≡ false
     chosen true e rest = let P : ℕ → Type 0 = λ z. AreColoursFrom (z + 1) xs in
-        later (gap_from (n + 1) xs) (omega (arith, eqb-true x n e, gap_low (n + 1) xs)) (rest (subst P (eqb-true x n e) own.2))
+        later (gap_from (n + 1) xs) (omega (arith, eqb-true x n e, gap_low (n + 1) xs))
+        (rest (subst P (eqb-true x n e) own.2))
     chosen false e rest = has_none x (x ∷ xs) n (omega arith, own.1, own.2) (other x n own.0 e)
 
 gap_least_from : (n : ℕ) (xs : List ℕ) (c : ℕ) → n ≤ c → c < gap_from n xs → has xs c ≡ true
 gap_least_from n [] c le lt = absurd (omega arith)
 gap_least_from n (x ∷ xs) c le lt = chosen (x == n) refl lt (gap_least_from (n + 1) xs c)
   where
-    chosen : (same : Bool) → (x == n) ≡ same → c < cond same (gap_from (n + 1) xs) n → (n + 1 ≤ c → c < gap_from (n + 1) xs → has xs c ≡ true) → has (x ∷ xs) c ≡ true
+    chosen : (same : Bool) → (x == n) ≡ same → c < cond same (gap_from (n + 1) xs) n
+        → (n + 1 ≤ c → c < gap_from (n + 1) xs → has xs c ≡ true) → has (x ∷ xs) c ≡ true
     chosen true e lt rest = elim (cases_lt n c) [
-      | inl below ↦ ap (λ b. b || has xs c) (below_is_not x c (omega (arith, eqb-true x n e))) ∙ rest (omega arith) lt
+      | inl below ↦ ap (λ b. b || has xs c) (below_is_not x c (omega (arith, eqb-true x n e)))
+          ∙ rest (omega arith) lt
       | inr above ↦ ap (λ b. b || has xs c) (same_is x c (omega (arith, eqb-true x n e)))
     ]
     chosen false e lt rest = absurd (omega arith)

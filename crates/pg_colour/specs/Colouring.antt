@@ -24,7 +24,11 @@ colouring = record {
   gather = λ near. near.other.first ∷ [];
   sum = union;
   combine = λ a b. min a b;
-  apply = λ v datum acc message. record { datum = one (recoloured datum.first acc); again = None; carry = tt };
+  apply = λ v datum acc message. record {
+    datum = one (recoloured datum.first acc);
+    again = None;
+    carry = tt;
+  };
   scatter = λ near carry. record {
     edge = near.word;
     signal = cond (near.centre.first == near.other.first) (Some 0) None;

@@ -7,7 +7,8 @@ use Rattle.pg_colour.specs.Colours.{AreColours, has, least_free}
 use Rattle.pg_colour.specs.Colouring.{colouring, recoloured}
 use Rattle.pg_colour.specs.ColoursLaws.{union_own, union_unit, union_comm, union_assoc, least_free_own}
 
-recoloured_own : (old : ℕ) (colours : List ℕ) → IsU64 old → AreColours colours → IsU64 (recoloured old colours)
+recoloured_own : (old : ℕ) (colours : List ℕ) → IsU64 old → AreColours colours
+    → IsU64 (recoloured old colours)
 recoloured_own old colours ho hc = chosen (has colours old)
   where
     chosen : (taken : Bool) → IsU64 (cond taken (least_free colours) old)
@@ -24,8 +25,17 @@ closed = record {
   gather = λ near h. (omega arith, h.other, tt);
   sum = union_own;
   combine = min_own;
-  apply = λ v datum acc message hv hd ha hm. record { datum = recoloured_own datum.first acc hd ha; again = tt; carry = tt; narrow = λ _. refl };
-  scatter = λ near carry h c. record { edge = h.word; signal = sent_own IsU64 (near.centre.first == near.other.first) 0 (omega arith); delta = tt };
+  apply = λ v datum acc message hv hd ha hm. record {
+    datum = recoloured_own datum.first acc hd ha;
+    again = tt;
+    carry = tt;
+    narrow = λ _. refl;
+  };
+  scatter = λ near carry h c. record {
+    edge = h.word;
+    signal = sent_own IsU64 (near.centre.first == near.other.first) 0 (omega arith);
+    delta = tt;
+  };
 }
 
 monoidal : IsMonoidal colouring
@@ -39,4 +49,8 @@ monoidal = record {
 
 -- it keeps no deltas
 pub colouring_lawful : IsLawful colouring
-colouring_lawful = record { closed = closed; monoidal = monoidal; deltas = λ keeps. absurd (true≢false (sym keeps)) }
+colouring_lawful = record {
+  closed = closed;
+  monoidal = monoidal;
+  deltas = λ keeps. absurd (true≢false (sym keeps));
+}

@@ -20,7 +20,8 @@ ContainsAll xs ys = (c : ℕ) → has ys c ≡ true → has xs c ≡ true
 -- with one more colour, at its place, and unchanged where it is there
 abbrev pub with_colour : List ℕ → ℕ → List ℕ
 with_colour [] c = c ∷ []
-with_colour (x ∷ xs) c = cond (nat_lt c x) (c ∷ x ∷ xs) (cond (x == c) (x ∷ xs) (x ∷ with_colour xs c))
+with_colour (x ∷ xs) c = cond (nat_lt c x) (c ∷ x ∷ xs)
+    (cond (x == c) (x ∷ xs) (x ∷ with_colour xs c))
 
 -- with all colours of another list
 abbrev pub union : List ℕ → List ℕ → List ℕ

@@ -1,6 +1,8 @@
 //! Sets of colours.
-ghost use Rattle.std.specs.Prelude.{◌≡◌, ℕ, ◌<◌, true, false, [], ◌∷◌, IfOk, OnOk, OnErr, IsOk};
-ghost use Rattle.pg_colour.specs.Colours.{AreColours, ContainsAll, has, with_colour, union, gap_from, least_free as least_free_of};
+ghost use Rattle.std.specs.Prelude.{◌≡◌, ℕ, ◌<◌, true, false, [], ◌∷◌};
+ghost use Rattle.std.specs.Prelude.{IfOk, OnOk, OnErr, IsOk};
+ghost use Rattle.pg_colour.specs.Colours.{AreColours, ContainsAll, has, with_colour, union};
+ghost use Rattle.pg_colour.specs.Colours.{gap_from, least_free as least_free_of};
 
 use std::alloc::{AllocError, Global};
 use std::marker::Model;

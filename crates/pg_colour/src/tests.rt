@@ -1,6 +1,7 @@
 //! Two vertices with an edge between them, and sets of colours.
 ghost use Rattle.std.specs.Prelude.{◌≡◌};
 ghost use Rattle.pg_law.specs.Laws.{IsNear};
+ghost use Rattle.pg_law.specs.Values.{one};
 
 use super::*;
 use pg_graph::{EdgeInfo, Side, VertexInfo};
@@ -15,7 +16,10 @@ const VERTEX: VertexInfo = VertexInfo {
 };
 
 fn near(side: Side, centre: u64, other: u64) -> Near
-    ensures { result ≡ record { side = side; edge = record { src = VERTEX; dst = VERTEX; weight = 1 }; word = 0; centre = record { first = centre; second = 0 }; other = record { first = other; second = 0 } } }
+    ensures edge { result.edge ≡ record { src = VERTEX; dst = VERTEX; weight = 1 } }
+    ensures word { result.word ≡ 0 }
+    ensures centre { result.centre ≡ one centre }
+    ensures other { result.other ≡ one other }
 {
     Near {
         side,

@@ -15,7 +15,8 @@ below_one_way a b h = grind (arith, nat_tests)
 below_trans : (a b c : Datum) → is_below a b ≡ true → is_below b c ≡ true → is_below a c ≡ true
 below_trans a b c h k = grind (arith, nat_tests)
 
-not_below_trans : (a b c : Datum) → is_below b a ≡ false → is_below c b ≡ false → is_below c a ≡ false
+not_below_trans : (a b c : Datum) → is_below b a ≡ false → is_below c b ≡ false
+    → is_below c a ≡ false
 not_below_trans a b c h k = grind (arith, nat_tests)
 
 same_first : (a b : Datum) → is_below a b ≡ false → is_below b a ≡ false → a.first ≡ b.first
@@ -25,7 +26,8 @@ same_second : (a b : Datum) → is_below a b ≡ false → is_below b a ≡ fals
 same_second a b h k = grind (arith, nat_tests)
 
 below_neither : (a b : Datum) → is_below a b ≡ false → is_below b a ≡ false → a ≡ b
-below_neither a b h k = ap (λ x. two x a.second) (same_first a b h k) ∙ ap (λ y. two b.first y) (same_second a b h k)
+below_neither a b h k = ap (λ x. two x a.second) (same_first a b h k)
+    ∙ ap (λ y. two b.first y) (same_second a b h k)
 
 smaller_right : (a b : Datum) → is_below b a ≡ true → smaller_pair a b ≡ b
 smaller_right a b h = ap (λ test. cond test b a) h
@@ -36,26 +38,35 @@ smaller_left a b h = ap (λ test. cond test b a) h
 pub smaller_comm : (a b : Datum) → smaller_pair a b ≡ smaller_pair b a
 smaller_comm a b = chosen (is_below b a) (is_below a b) refl refl
   where
-    chosen : (ba ab : Bool) → is_below b a ≡ ba → is_below a b ≡ ab → smaller_pair a b ≡ smaller_pair b a
+    chosen : (ba ab : Bool) → is_below b a ≡ ba → is_below a b ≡ ab
+        → smaller_pair a b ≡ smaller_pair b a
     chosen true true h k = absurd (true≢false (sym k ∙ below_one_way b a h))
     chosen true false h k = smaller_right a b h ∙ sym (smaller_left b a k)
     chosen false true h k = smaller_left a b h ∙ sym (smaller_right b a k)
-    chosen false false h k = ap (λ x. smaller_pair x b) (below_neither a b k h) ∙ ap (λ x. smaller_pair b x) (sym (below_neither a b k h))
+    chosen false false h k = ap (λ x. smaller_pair x b) (below_neither a b k h)
+        ∙ ap (λ x. smaller_pair b x) (sym (below_neither a b k h))
 
-pub smaller_assoc : (a b c : Datum) → smaller_pair (smaller_pair a b) c ≡ smaller_pair a (smaller_pair b c)
+pub smaller_assoc : (a b c : Datum)
+    → smaller_pair (smaller_pair a b) c ≡ smaller_pair a (smaller_pair b c)
 smaller_assoc a b c = chosen (is_below b a) (is_below c b) refl refl
   where
     left : (x : Datum) → smaller_pair a b ≡ x → smaller_pair (smaller_pair a b) c ≡ smaller_pair x c
     left x e = ap (λ y. smaller_pair y c) e
 
-    right : (x : Datum) → smaller_pair b c ≡ x → smaller_pair a (smaller_pair b c) ≡ smaller_pair a x
+    right : (x : Datum) → smaller_pair b c ≡ x
+        → smaller_pair a (smaller_pair b c) ≡ smaller_pair a x
     right x e = ap (λ y. smaller_pair a y) e
 
-    chosen : (ba cb : Bool) → is_below b a ≡ ba → is_below c b ≡ cb → smaller_pair (smaller_pair a b) c ≡ smaller_pair a (smaller_pair b c)
-    chosen true true h k = left b (smaller_right a b h) ∙ smaller_right b c k ∙ sym (right c (smaller_right b c k) ∙ smaller_right a c (below_trans c b a k h))
-    chosen true false h k = left b (smaller_right a b h) ∙ smaller_left b c k ∙ sym (right b (smaller_left b c k) ∙ smaller_right a b h)
+    chosen : (ba cb : Bool) → is_below b a ≡ ba → is_below c b ≡ cb
+        → smaller_pair (smaller_pair a b) c ≡ smaller_pair a (smaller_pair b c)
+    chosen true true h k = left b (smaller_right a b h) ∙ smaller_right b c k
+        ∙ sym (right c (smaller_right b c k) ∙ smaller_right a c (below_trans c b a k h))
+    chosen true false h k = left b (smaller_right a b h) ∙ smaller_left b c k
+        ∙ sym (right b (smaller_left b c k) ∙ smaller_right a b h)
     chosen false true h k = left a (smaller_left a b h) ∙ sym (right c (smaller_right b c k))
-    chosen false false h k = left a (smaller_left a b h) ∙ smaller_left a c (not_below_trans a b c h k) ∙ sym (right b (smaller_left b c k) ∙ smaller_left a b h)
+    chosen false false h k = left a (smaller_left a b h)
+        ∙ smaller_left a c (not_below_trans a b c h k)
+        ∙ sym (right b (smaller_left b c k) ∙ smaller_left a b h)
 
 -- the second of two, where the first isn't below it
 smaller_last : (a b : Datum) → is_below a b ≡ false → smaller_pair a b ≡ b
@@ -85,20 +96,26 @@ via_own length weight id h = chosen (plus length weight == greatest)
     chosen false = record { first = plus_own length weight; second = h }
 
 -- a shorter path gives no greater pair
-via_not_below : (new old weight id : ℕ) → IsU64 id → new ≤ old → is_below (via old weight id) (via new weight id) ≡ false
-via_not_below new old weight id own h = chosen (plus old weight == greatest) (plus new weight == greatest) refl refl
+via_not_below : (new old weight id : ℕ) → IsU64 id → new ≤ old
+    → is_below (via old weight id) (via new weight id) ≡ false
+via_not_below new old weight id own h = chosen (plus old weight == greatest)
+    (plus new weight == greatest) refl refl
   where
     longer : (x y : ℕ) → x ≤ y → is_below (two y id) (two x id) ≡ false
     longer x y le = grind (arith, nat_tests)
 
-    chosen : (old_none new_none : Bool) → (plus old weight == greatest) ≡ old_none → (plus new weight == greatest) ≡ new_none
-        → is_below (cond old_none unreached (two (plus old weight) id)) (cond new_none unreached (two (plus new weight) id)) ≡ false
+    chosen : (old_none new_none : Bool) → (plus old weight == greatest) ≡ old_none
+        → (plus new weight == greatest) ≡ new_none
+        → is_below (cond old_none unreached (two (plus old weight) id))
+        (cond new_none unreached (two (plus new weight) id)) ≡ false
     chosen true true e f = refl
     chosen true false e f = above_all _ (record { first = plus_own new weight; second = own })
     chosen false true e f = grind (arith, nat_tests)
-    chosen false false e f = longer (plus new weight) (plus old weight) (plus_below new old weight h)
+    chosen false false e f = longer (plus new weight) (plus old weight)
+        (plus_below new old weight h)
 
-pub via_joined : (new old weight id : ℕ) → IsU64 id → new ≤ old → smaller_pair (via old weight id) (via new weight id) ≡ via new weight id
+pub via_joined : (new old weight id : ℕ) → IsU64 id → new ≤ old
+    → smaller_pair (via old weight id) (via new weight id) ≡ via new weight id
 via_joined new old weight id own h = smaller_last _ _ (via_not_below new old weight id own h)
 
 -- the smaller of two is no longer than either

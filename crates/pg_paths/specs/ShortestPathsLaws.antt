@@ -23,10 +23,16 @@ closed source = record {
   gather = λ near h. plus_own near.other.first near.edge.weight;
   sum = min_own;
   combine = min_own;
-  apply = λ v datum acc message hv hd ha hm. record { datum = min_own datum.first _ hd (min_own acc message ha hm); again = tt; carry = tt; narrow = λ _. refl };
+  apply = λ v datum acc message hv hd ha hm. record {
+    datum = min_own datum.first _ hd (min_own acc message ha hm);
+    again = tt;
+    carry = tt;
+    narrow = λ _. refl;
+  };
   scatter = λ near carry h c. let distance = plus near.centre.first near.edge.weight in record {
     edge = h.word;
-    signal = sent_own IsU64 (nat_lt distance near.other.first) distance (plus_own near.centre.first near.edge.weight);
+    signal = sent_own IsU64 (nat_lt distance near.other.first) distance
+        (plus_own near.centre.first near.edge.weight);
     delta = posted_own IsU64 carry distance (plus_own near.centre.first near.edge.weight);
   };
 }
@@ -48,10 +54,15 @@ keep source = record {
   idle = λ near carry h c scatters none. absurd (out_is_gathered near.side scatters none);
   change = λ near old acc message h ho ha hm g. record {
     leads = let new = min old.first (min acc message) in let weight = near.edge.weight in
-        leads_where_changed (λ a b. min a b) (plus old.first weight) (plus new weight) (new == old.first)
+        leads_where_changed (λ a b. min a b) (plus old.first weight) (plus new weight)
+        (new == old.first)
         (λ same. ap (λ d. plus d weight) (sym (eqb-true new old.first same))) (omega arith);
   };
 }
 
 pub shortest_paths_lawful : (source : ℕ) → IsLawful (shortest_paths source)
-shortest_paths_lawful source = record { closed = closed source; monoidal = monoidal source; deltas = λ _. keep source }
+shortest_paths_lawful source = record {
+  closed = closed source;
+  monoidal = monoidal source;
+  deltas = λ _. keep source;
+}

@@ -14,7 +14,8 @@ use Rattle.pg_paths.specs.ShortestPathsLaws.{plus_own}
 use Rattle.pg_paths.specs.Trees.{tree, offered, reached}
 
 module _ (source : ℕ) where
-  reached_own : (v : VertexInfo) (datum acc : Datum) → IsVertexInfo v → IsPair datum → IsPair acc → IsPair (reached source v datum acc)
+  reached_own : (v : VertexInfo) (datum acc : Datum) → IsVertexInfo v → IsPair datum → IsPair acc
+      → IsPair (reached source v datum acc)
   reached_own v datum acc hv hd ha = chosen (v.id == source)
     where
       chosen : (at_source : Bool) → IsPair (cond at_source (two 0 v.id) (smaller_pair datum acc))
@@ -22,10 +23,12 @@ module _ (source : ℕ) where
       chosen false = smaller_own datum acc hd ha
 
   -- no apply makes a path longer
-  reached_first : (v : VertexInfo) (datum acc : Datum) → (reached source v datum acc).first ≤ datum.first
+  reached_first : (v : VertexInfo) (datum acc : Datum)
+      → (reached source v datum acc).first ≤ datum.first
   reached_first v datum acc = chosen (v.id == source)
     where
-      chosen : (at_source : Bool) → (cond at_source (two 0 v.id) (smaller_pair datum acc)).first ≤ datum.first
+      chosen : (at_source : Bool)
+          → (cond at_source (two 0 v.id) (smaller_pair datum acc)).first ≤ datum.first
       chosen true = omega arith
       chosen false = smaller_first datum acc
 
@@ -36,14 +39,23 @@ module _ (source : ℕ) where
     start_narrow = λ v h n. cc;
     start_edge = λ e h. omega arith;
     empty = unreached_own;
-    gather = λ near h. via_own near.other.first near.edge.weight near.edge.src.id (omega (arith, h.edge.src.id));
+    gather = λ near h. via_own near.other.first near.edge.weight near.edge.src.id
+        (omega (arith, h.edge.src.id));
     sum = smaller_own;
     combine = min_own;
-    apply = λ v datum acc message hv hd ha hm. record { datum = reached_own v datum acc hv hd ha; again = tt; carry = tt; narrow = λ n. cc };
+    apply = λ v datum acc message hv hd ha hm. record {
+      datum = reached_own v datum acc hv hd ha;
+      again = tt;
+      carry = tt;
+      narrow = λ n. cc;
+    };
     scatter = λ near carry h c. record {
       edge = h.word;
-      signal = sent_own IsU64 (is_below (offered near.edge near.centre) near.other) (plus near.centre.first near.edge.weight) (plus_own near.centre.first near.edge.weight);
-      delta = posted_own IsPair carry (offered near.edge near.centre) (via_own near.centre.first near.edge.weight near.edge.src.id (omega (arith, h.edge.src.id)));
+      signal = sent_own IsU64 (is_below (offered near.edge near.centre) near.other)
+          (plus near.centre.first near.edge.weight) (plus_own near.centre.first near.edge.weight);
+      delta = posted_own IsPair carry (offered near.edge near.centre)
+          (via_own near.centre.first near.edge.weight near.edge.src.id
+          (omega (arith, h.edge.src.id)));
     };
   }
 
@@ -65,9 +77,12 @@ module _ (source : ℕ) where
     change = λ near old acc message h ho ha hm g. record {
       leads = let v = info_at near.side near.edge in
           let new = reached source v old acc in
-          leads_where_changed smaller_pair (offered near.edge old) (offered near.edge new) (new.first == old.first)
-          (λ same. ap (λ length. via length near.edge.weight near.edge.src.id) (sym (eqb-true new.first old.first same)))
-          (via_joined new.first old.first near.edge.weight near.edge.src.id (omega (arith, h.edge.src.id)) (reached_first v old acc));
+          leads_where_changed smaller_pair (offered near.edge old) (offered near.edge new)
+          (new.first == old.first)
+          (λ same. ap (λ length. via length near.edge.weight near.edge.src.id)
+          (sym (eqb-true new.first old.first same)))
+          (via_joined new.first old.first near.edge.weight near.edge.src.id
+          (omega (arith, h.edge.src.id)) (reached_first v old acc));
     };
   }
 

@@ -1,6 +1,7 @@
 //! Pairs of words: the length of a path, and the id of the vertex before its end.
 ghost use Rattle.std.specs.Prelude.{◌≡◌};
-ghost use Rattle.pg_paths.specs.Pairs.{is_below as is_below_of, smaller_pair, unreached as unreached_pair, via as via_of};
+ghost use Rattle.pg_paths.specs.Pairs.{is_below as is_below_of, smaller_pair};
+ghost use Rattle.pg_paths.specs.Pairs.{unreached as unreached_pair, via as via_of};
 
 use crate::length::plus;
 use pg_law::Datum;

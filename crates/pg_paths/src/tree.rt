@@ -10,8 +10,8 @@ use std::alloc::{AllocError, Global};
 use std::sync::ledger::Ledger;
 
 /// Finds the least length of a path from the source to each vertex, and the least id of a vertex
-/// that may stand before it on such a path. The source, which is named by its id, has itself there, and
-/// a vertex without a path has `u64::MAX` twice.
+/// that may stand before it on such a path. The source is named by its id, and has itself there. A
+/// vertex without a path has `u64::MAX` twice.
 #[derive(Clone, Copy, Debug)]
 pub struct Tree {
     pub source: u32,

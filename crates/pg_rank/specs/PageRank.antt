@@ -10,7 +10,10 @@ use Rattle.pg_rank.specs.Shares.{share, joined, change, distance, rank}
 
 -- from one rank to another, at a vertex with so many edges out
 abbrev pub changed : ℕ → ℕ → ℕ → ℕ → Change
-changed tolerance out old new = record { share = change (share old out) (share new out); above = nat_lt tolerance (distance new old) }
+changed tolerance out old new = record {
+  share = change (share old out) (share new out);
+  above = nat_lt tolerance (distance new old);
+}
 
 -- a vertex tells each neighbour how much more it brings, and wakes it where that is worth the while
 abbrev pub page_rank : ℕ → Program ℕ Change
@@ -25,8 +28,11 @@ page_rank tolerance = record {
   gather = λ near. near.other.first / near.edge.src.out_degree;
   sum = joined;
   combine = λ a b. min a b;
-  apply = λ v datum acc message. let new = rank acc in
-      record { datum = one new; again = None; carry = changed tolerance v.out_degree datum.first new };
+  apply = λ v datum acc message. let new = rank acc in record {
+    datum = one new;
+    again = None;
+    carry = changed tolerance v.out_degree datum.first new;
+  };
   scatter = λ near carry. record {
     edge = near.word;
     signal = cond carry.above (Some 0) None;

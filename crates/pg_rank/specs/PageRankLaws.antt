@@ -42,10 +42,13 @@ share_some : (n out : ℕ) → 1 ≤ out → share n out ≡ n / out
 share_some n out h = grind (arith, nat_tests)
 
 -- a vertex gathers over an edge out of another, and hears of that one's change
-told : (side : Side) (edge : EdgeInfo) (old new : ℕ) → IsEdgeInfo edge → IsU64 old → IsU64 new → takes InEdges (opposite side) ≡ true
-    → let out = (info_at side edge).out_degree in joined (old / edge.src.out_degree) (change (share old out) (share new out)) ≡ new / edge.src.out_degree
+told : (side : Side) (edge : EdgeInfo) (old new : ℕ) → IsEdgeInfo edge → IsU64 old → IsU64 new
+    → takes InEdges (opposite side) ≡ true
+    → let out = (info_at side edge).out_degree in joined (old / edge.src.out_degree)
+    (change (share old out) (share new out)) ≡ new / edge.src.out_degree
 told Source edge old new h ho hn gathers = let out = edge.src.out_degree in
-    rw (share_some old out h.leaves, share_some new out h.leaves) (joined_change (old / out) (new / out) (part_own old out ho) (part_own new out hn))
+    rw (share_some old out h.leaves, share_some new out h.leaves)
+    (joined_change (old / out) (new / out) (part_own old out ho) (part_own new out hn))
 told Target edge old new h ho hn gathers = absurd (true≢false (sym gathers))
 
 module _ (tolerance : ℕ) where
@@ -65,7 +68,11 @@ module _ (tolerance : ℕ) where
       carry = change_own (share datum.first v.out_degree) (share (rank acc) v.out_degree);
       narrow = λ _. refl;
     };
-    scatter = λ near carry h c. record { edge = h.word; signal = sent_own IsU64 carry.above 0 (omega arith); delta = c };
+    scatter = λ near carry h c. record {
+      edge = h.word;
+      signal = sent_own IsU64 carry.above 0 (omega arith);
+      delta = c;
+    };
   }
 
   monoidal : IsMonoidal (page_rank tolerance)
@@ -83,7 +90,9 @@ module _ (tolerance : ℕ) where
     word = λ near carry h c. refl;
     covers = out_covers_in;
     idle = λ near carry h c scatters none. absurd (out_is_gathered near.side scatters none);
-    change = λ near old acc message h ho ha hm gathers. record { leads = told near.side near.edge old.first (rank acc) h.edge ho (rank_own acc ha) gathers };
+    change = λ near old acc message h ho ha hm gathers. record {
+      leads = told near.side near.edge old.first (rank acc) h.edge ho (rank_own acc ha) gathers;
+    };
   }
 
   pub page_rank_lawful : IsLawful (page_rank tolerance)

@@ -1,6 +1,7 @@
 //! The ranks of three vertices: 1 leads to 2 and 3, and 2 leads to 3.
 ghost use Rattle.std.specs.Prelude.{◌≡◌};
 ghost use Rattle.pg_law.specs.Laws.{IsNear};
+ghost use Rattle.pg_law.specs.Values.{one};
 
 use super::*;
 use pg_graph::{EdgeInfo, Side, VertexInfo};
@@ -27,7 +28,10 @@ const THREE: VertexInfo = VertexInfo {
 };
 
 fn near(side: Side, src: VertexInfo, dst: VertexInfo, centre: u64, other: u64) -> Near
-    ensures { result ≡ record { side = side; edge = record { src = src; dst = dst; weight = 1 }; word = 0; centre = record { first = centre; second = 0 }; other = record { first = other; second = 0 } } }
+    ensures edge { result.edge ≡ record { src = src; dst = dst; weight = 1 } }
+    ensures word { result.word ≡ 0 }
+    ensures centre { result.centre ≡ one centre }
+    ensures other { result.other ≡ one other }
 {
     Near {
         side,

@@ -10,15 +10,25 @@ pub loop-colour-preserved : goal.loop-colour-preserved
 loop-colour-preserved c = let colours = c.deref-colour-items.result.now in
     let i = c.loop-colour.colour-index in
     let set = c.loop-colour.self in
+    let colour = get_or colours i 0 in
+    let more = union_more c.args.self.now colours i c.loop-colour-test.true in
     record {
-      own = rw c.in_ok-add.ensures.ok (with_own 0 set (get_or colours i 0) c.loop-colour.invariant.own (omega arith) (omega (arith, c.type_inv.colour-items i)));
-      so_far = c.in_ok-add.ensures.ok ∙ ap (λ xs. with_colour xs (get_or colours i 0)) c.loop-colour.invariant.so_far ∙ sym (union_more c.args.self.now colours i c.loop-colour-test.true);
+      own = rw c.in_ok-add.ensures.ok
+          (with_own 0 set colour c.loop-colour.invariant.own (omega arith)
+          (omega (arith, c.type_inv.colour-items i)));
+      so_far = c.in_ok-add.ensures.ok
+          ∙ ap (λ xs. with_colour xs colour) c.loop-colour.invariant.so_far ∙ sym more;
     }
 
+-- a colour that is in is in the union so far, so its add has succeeded
 pub returns-in_err-add-clause-known : goal.returns-in_err-add-clause-known
 returns-in_err-add-clause-known c = let colours = c.deref-colour-items.result.now in
     let i = c.loop-colour.colour-index in
     let colour = get_or colours i 0 in
-    let there : has c.args.other.now colour ≡ true = ap (λ xs. has xs colour) (sym (c.deref-colour-items.ensures.value ∙ c.other.view_is)) ∙ has_at colours i c.loop-colour-test.true in
-    λ all. absurd (true≢false (sym (c.in_err-add.ensures.known (ap (λ xs. has xs colour) c.loop-colour.invariant.so_far ∙ has_union c.args.self.now (take i colours) colour
-      ∙ ap (λ b. b || has (take i colours) colour) (all colour there)))))
+    let front = take i colours in
+    let same = sym (c.deref-colour-items.ensures.value ∙ c.other.view_is) in
+    let there = ap (λ xs. has xs colour) same ∙ has_at colours i c.loop-colour-test.true in
+    let united = ap (λ xs. has xs colour) c.loop-colour.invariant.so_far
+    ∙ has_union c.args.self.now front colour in
+    λ all. absurd (true≢false (sym (c.in_err-add.ensures.known
+    (united ∙ ap (λ b. b || has front colour) (all colour there)))))
