@@ -6,11 +6,12 @@ use Rattle.pg_law.specs.Configuration.{start_state}
 use Rattle.pg_law.specs.Rounds.{Run, end_of}
 use Rattle.pg_law.proofs.Repeating.{rounds_stop}
 use Rattle.pg_paths.specs.Components.{components}
+use Rattle.std.proofs.lemmas.List.Sorted.{IsPermutation-refl}
 use Rattle.pg_main.specs.Report.{report_of}
 use Rattle.pg_main.proofs.laws.the_empty_text.Goals as goal
 
 pub returns-clause-graph : goal.returns-clause-graph
-returns-clause-graph c = (_, refl, record { graph = search rules; ids = search rules; edges = refl; loops = refl })
+returns-clause-graph c = record { graph = search rules; ids = IsPermutation-refl _; edges = refl; loops = refl }
 
 pub returns-clause-report : goal.returns-clause-report
 unfolding digits

@@ -2,13 +2,20 @@ use Rattle.std.proofs.Common.{ap, refl, rules}
 use Rattle.std.specs.Fmt.{digits}
 use Rattle.std.specs.Prelude.{codes}
 use Rattle.pg_law.specs.Rounds.{Run, end_of}
+use Rattle.std.proofs.lemmas.List.Sorted.{IsPermutation-refl}
+use Rattle.pg_readers.specs.Tokens.{is_blank}
 use Rattle.pg_main.specs.Report.{report_of}
 use Rattle.pg_main.specs.Rows.{path_graph}
 use Rattle.pg_main.proofs.Rows.{path_run}
 use Rattle.pg_main.proofs.laws.the_path_of_four.Goals as goal
 
+pub returns-clause-accepted : goal.returns-clause-accepted
+unfolding is_blank
+returns-clause-accepted c = refl
+
 pub returns-clause-graph : goal.returns-clause-graph
-returns-clause-graph c = (_, refl, record { graph = search rules; ids = search rules; edges = refl; loops = refl })
+unfolding is_blank
+returns-clause-graph c = record { graph = search rules; ids = IsPermutation-refl _; edges = refl; loops = refl }
 
 pub returns-clause-report : goal.returns-clause-report
 unfolding digits
