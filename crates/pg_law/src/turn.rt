@@ -20,7 +20,7 @@ pub struct Turn<C> {
     pub gathers: u64,
 }
 
-/// A vertex with this message applies to its fresh gather.
+/// A vertex with this message applies to its fresh gather. `Err` is want of memory.
 pub fn take_turn<P: VertexProgram, L: Ledger>(
     alloc: Global,
     program: &P,

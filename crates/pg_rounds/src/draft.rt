@@ -5,7 +5,7 @@ ghost use Rattle.pg_rounds.specs.Visits.{with_change, written};
 use pg_law::{Applied, Datum};
 use std::alloc::{AllocError, Global};
 
-/// An edge gets another word.
+/// An edge, by its number, gets another word.
 #[derive(Clone, Copy, Debug)]
 pub struct Change {
     pub edge: u32,
@@ -14,8 +14,9 @@ pub struct Change {
 
 /// What a round writes before its end. The lists are kept from round to round.
 ///
-/// `became`, `values` and `messages` have an element for each vertex, `frontier` has the vertices that
-/// execute, ascending, and `changes` the edges whose words change.
+/// `became[v]` is what the vertex `v` becomes, and `values[v]` and `messages[v]` are its datum and its
+/// message after that. `frontier` has the vertices that execute, ascending, and `changes` the edges
+/// whose words change, in the order of their visits.
 #[derive(Drop)]
 pub struct Draft<C> {
     pub became: Vec<Option<Applied<C>>>,
@@ -79,7 +80,7 @@ impl<C: Copy> Draft<C> {
     }
 }
 
-/// Notes the new word of an edge, where it is another one.
+/// Notes the new word of an edge, where it is not the old one.
 pub fn note_change(
     changes: &mut Vec<Change>,
     edge: u32,

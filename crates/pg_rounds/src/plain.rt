@@ -1,4 +1,4 @@
-//! A round as its definition reads: new lists for all vertices and edges, and every edge is visited, ascending.
+//! A round as its definition reads: new lists, and every edge is visited, ascending.
 ghost use Rattle.std.specs.Prelude.{◌≡◌, ◌+◌, ◌<◌, ◌≤◌, true, length, map, IfOk, OnOk};
 ghost use Rattle.pg_graph.specs.Multigraph.{vertices, edge_numbers, edges_at};
 ghost use Rattle.pg_law.specs.Configuration.{Configuration, AreData, AreWords, AreMessages, IsFit, signalled, message_in};
@@ -132,7 +132,9 @@ fn scatter_all<P: VertexProgram>(
     Ok(after)
 }
 
-/// One round, slow and plain.
+/// One round, slow and plain: it makes new lists of all vertices and edges, and visits every edge.
+///
+/// `Err` is want of memory.
 pub fn plain_round<P: VertexProgram, L: Ledger>(
     alloc: Global,
     program: &P,

@@ -10,7 +10,9 @@ use std::marker::Brand;
 use std::sync::ledger::Ledger;
 use std::test::Fail;
 
-/// Every vertex takes the greatest id that it hears of. An edge keeps the last label that went over it.
+/// Every vertex takes the greatest id that it hears of.
+///
+/// An edge keeps the last label that went over it.
 struct Rising;
 
 fn greater(a: u64, b: u64) -> u64
