@@ -34,21 +34,28 @@ with_elements b (element ∷ elements) = with_elements (with_element b element) 
 
 -- the vertices pass their limit, where these would be the ids
 abbrev pub event_of_ids : Building → List ℕ → Option InputError
-event_of_ids b ids = if nat_lt b.limits.vertices (length ids) then Some (error.Limit which.Vertices b.limits.vertices) else None
+event_of_ids b ids =
+    if nat_lt b.limits.vertices (length ids) then Some (error.Limit which.Vertices b.limits.vertices)
+    else None
 
 -- the edges pass theirs by one more; a loop is none
 abbrev pub event_of_ends : Building → ℕ → ℕ → Option InputError
-event_of_ends b src dst = if not (src == dst) && nat_le b.limits.edges (length b.edges) then Some (error.Limit which.Edges b.limits.edges) else None
+event_of_ends b src dst =
+    if not (src == dst) && nat_le b.limits.edges (length b.edges)
+    then Some (error.Limit which.Edges b.limits.edges)
+    else None
 
 -- the first limit that one more element passes
 abbrev pub event_of_element : Building → Element → Option InputError
 event_of_element b (Vertex id) = event_of_ids b (with_id b.ids id)
-event_of_element b (Arc src dst weight) = option_or (event_of_ids b (ids_with b.ids src dst)) (event_of_ends b src dst)
+event_of_element b (Arc src dst weight) =
+    option_or (event_of_ids b (ids_with b.ids src dst)) (event_of_ends b src dst)
 
 -- and the first that one of these elements passes, behind those before it
 abbrev pub event_of_elements : Building → List Element → Option InputError
 event_of_elements b [] = None
-event_of_elements b (element ∷ elements) = option_or (event_of_element b element) (event_of_elements (with_element b element) elements)
+event_of_elements b (element ∷ elements) =
+    option_or (event_of_element b element) (event_of_elements (with_element b element) elements)
 
 -- a line that says this; a bad one adds nothing
 abbrev pub with_said : Building → Result Line BadLine → Building

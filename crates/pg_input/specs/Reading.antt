@@ -1,4 +1,5 @@
--- The graph of a text, and its first event: in the order of the lines, and in a line first the limit of bytes, then the line, then the limits of vertices and edges.
+-- The graph of a text, and its first event. Events come in the order of the lines, and in one line
+-- first the limit of bytes, then the line itself, then the limits of vertices and edges.
 use Rattle.std.specs.Prelude.{ℕ, ◌+◌, nat_lt, nat_eq, Bool, false, List, [], ◌∷◌, Option, None, Some, if◌then◌else◌}
 use Rattle.std.specs.Borrow.{Bor}
 use Rattle.std.specs.List.{find, starts_with}
@@ -26,22 +27,29 @@ is_stop_line (Some stop) line = starts_with nat_eq line stop
 -- what the lines before the first stop line build
 abbrev pub with_lines : Format → Option (List ℕ) → Building → List TextLine → Building
 with_lines format stop b [] = b
-with_lines format stop b (line ∷ lines) = if is_stop_line stop line.bytes then b else with_lines format stop (with_said b (line_says format line.bytes)) lines
+with_lines format stop b (line ∷ lines) =
+    if is_stop_line stop line.bytes then b
+    else with_lines format stop (with_said b (line_says format line.bytes)) lines
 
--- the first event of these lines, the first of which has this number and stands behind so many bytes; a stop line may pass the limit of bytes
-abbrev pub event_of_lines : Format → Option (List ℕ) → ℕ → Building → ℕ → ℕ → List TextLine → Option InputError
+-- the first event of these lines, where the first of them has this number and stands behind so many
+-- bytes; a stop line may still pass the limit of bytes
+abbrev pub event_of_lines : Format → Option (List ℕ) → ℕ → Building → ℕ → ℕ → List TextLine
+    → Option InputError
 event_of_lines format stop limit b number given [] = None
 event_of_lines format stop limit b number given (line ∷ lines) =
     if nat_lt limit (given + width line) then Some (Limit Bytes limit)
     else if is_stop_line stop line.bytes then None
-    else option_or (event_of_said b number (line_says format line.bytes)) (event_of_lines format stop limit (with_said b (line_says format line.bytes)) (number + 1) (given + width line) lines)
+    else option_or (event_of_said b number (line_says format line.bytes))
+    (event_of_lines format stop limit (with_said b (line_says format line.bytes)) (number + 1)
+    (given + width line) lines)
 
 -- what a text builds up to its stop line, and the first event up to and on it, behind so many bytes
 abbrev pub built_until : Format → Option (List ℕ) → Limits → List ℕ → Building
 built_until format stop limits text = with_lines format stop (building limits [] [] 0) (lines text)
 
 abbrev pub event_until : Format → Option (List ℕ) → Limits → ℕ → List ℕ → Option InputError
-event_until format stop limits given text = event_of_lines format stop limits.bytes (building limits [] [] 0) 1 given (lines text)
+event_until format stop limits given text =
+    event_of_lines format stop limits.bytes (building limits [] [] 0) 1 given (lines text)
 
 -- the stop line, its bytes, whether its line feed stands, and what comes behind it
 abbrev pub stop_of : Option (List ℕ) → List ℕ → Option TextLine

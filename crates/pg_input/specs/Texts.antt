@@ -1,4 +1,5 @@
--- The lines of a text. A line ends at its line feed; what stands behind the last line feed is a line where it isn't empty.
+-- The lines of a text. A line ends at its line feed; what stands behind the last line feed is a line
+-- where it isn't empty.
 use Rattle.std.specs.Prelude.{ℕ, ◌==◌, Bool, true, false, List, [], ◌∷◌, length, if◌then◌else◌}
 use Rattle.pg_base.specs.Lines.{width_of}
 
@@ -18,7 +19,8 @@ onto_first byte (line ∷ lines) = text_line (byte ∷ line.bytes) line.ended li
 
 abbrev pub lines : List ℕ → List TextLine
 lines [] = []
-lines (byte ∷ text) = if byte == 10 then text_line [] true text ∷ lines text else onto_first byte (lines text)
+lines (byte ∷ text) =
+    if byte == 10 then text_line [] true text ∷ lines text else onto_first byte (lines text)
 
 -- how many bytes a line takes, its line feed included
 abbrev pub width : TextLine → ℕ

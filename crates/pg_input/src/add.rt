@@ -12,8 +12,10 @@ use pg_readers::{Format, Line, Targets, parse_line};
 fn add_star(builder: &mut GraphBuilder, id: u32, targets: Targets<'_>) -> Result<(), InputError>
     requires { builder.old.loops + length targets < 2 ^ 64 - 1 }
     ensures ok { OnOk result (event_of_elements builder.old (star_edges id targets.entry) ≡ None) }
-    ensures built { OnOk result (builder.new ≡ with_elements builder.old (star_edges id targets.entry)) }
-    ensures event { IfErr result (IsEventOf (event_of_elements builder.old (star_edges id targets.entry))) }
+    ensures built { OnOk result
+        (builder.new ≡ with_elements builder.old (star_edges id targets.entry)) }
+    ensures event { IfErr result
+        (IsEventOf (event_of_elements builder.old (star_edges id targets.entry))) }
     ensures no_fault { IsErrOf result InputError.ReadFault → ⊥ }
     ensures loops { OnOk result (builder.new.loops ≤ builder.old.loops + length targets.entry) }
 {
@@ -33,7 +35,8 @@ pub fn add_line(
     requires { builder.old.loops + length line.now < 2 ^ 64 - 1 }
     ensures ok { OnOk result (event_of_said builder.old number (line_says format line.now) ≡ None) }
     ensures built { OnOk result (builder.new ≡ with_said builder.old (line_says format line.now)) }
-    ensures event { IfErr result (IsEventOf (event_of_said builder.old number (line_says format line.now))) }
+    ensures event { IfErr result
+        (IsEventOf (event_of_said builder.old number (line_says format line.now))) }
     ensures no_fault { IsErrOf result InputError.ReadFault → ⊥ }
     ensures loops { OnOk result (builder.new.loops ≤ builder.old.loops + length line.now) }
 {

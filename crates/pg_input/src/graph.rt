@@ -24,12 +24,16 @@ pub fn read_graph<S: Source>(
 ) -> Result<Graph, InputError>
     requires { IsWithinStandard limits }
     // An accepted text gives its graph, and was read to its end.
-    ensures graph { IfOk result (λ graph. IfSome (S.left source.old) (λ text. IsGraphOfText format limits text graph)) }
-    ensures accepted { OnOk result (IfSome (S.left source.old) (λ text. first_event format limits text ≡ None)) }
+    ensures graph { IfOk result (λ graph. IfSome (S.left source.old)
+        (λ text. IsGraphOfText format limits text graph)) }
+    ensures accepted { OnOk result (IfSome (S.left source.old)
+        (λ text. first_event format limits text ≡ None)) }
     ensures end { OnOk result (IfSome (S.left source.old) (λ _. S.left source.new ≡ Some [])) }
     // A line or a limit is told exactly where it is the first event of the text.
-    ensures event { IfErr result (λ e. IfSome (S.left source.old) (λ text. IsEventOf (first_event format limits text) e)) }
-    ensures fault { IsErrOf result InputError.ReadFault → HasRisen (S.faults source.old) (S.faults source.new) }
+    ensures event { IfErr result (λ e. IfSome (S.left source.old)
+        (λ text. IsEventOf (first_event format limits text) e)) }
+    ensures fault { IsErrOf result InputError.ReadFault
+        → HasRisen (S.faults source.old) (S.faults source.new) }
     ensures counted { S.faults source.old ≤ S.faults source.new }
 {
     let mut cutter = LineCutter::new(alloc)?;

@@ -48,17 +48,22 @@ pub fn read_lines<S: Source>(
     ensures accepted { OnOk result (IfSome (ahead cutter.old (S.left source.old))
         (λ text. event_until format (stop_bytes stop.entry) limits cutter.old.given text ≡ None)) }
     ensures stop { IfOk result (λ read. IfSome (ahead cutter.old (S.left source.old))
-        (λ text. option_map (λ v. v.items) read.stop ≡ bytes_of_stop (stop_of (stop_bytes stop.entry) text))) }
+        (λ text. option_map (λ v. v.items) read.stop
+        ≡ bytes_of_stop (stop_of (stop_bytes stop.entry) text))) }
     ensures stop_ended { IfOk result (λ read. IfSome (ahead cutter.old (S.left source.old))
         (λ text. read.stop_ended ≡ is_stop_ended (stop_of (stop_bytes stop.entry) text))) }
     ensures behind { OnOk result (IfSome (ahead cutter.old (S.left source.old))
-        (λ text. ahead cutter.new (S.left source.new) ≡ Some (behind_stop (stop_of (stop_bytes stop.entry) text)))) }
+        (λ text. ahead cutter.new (S.left source.new)
+        ≡ Some (behind_stop (stop_of (stop_bytes stop.entry) text)))) }
     ensures given { OnOk result (IfSome (ahead cutter.old (S.left source.old))
-        (λ text. cutter.new.given + length (behind_stop (stop_of (stop_bytes stop.entry) text)) ≡ cutter.old.given + length text)) }
+        (λ text. cutter.new.given + length (behind_stop (stop_of (stop_bytes stop.entry) text))
+        ≡ cutter.old.given + length text)) }
     ensures refusal { OnOk result (cutter.new.refusal ≡ None) }
     ensures event { IfErr result (λ e. IfSome (ahead cutter.old (S.left source.old))
-        (λ text. IsEventOf (event_until format (stop_bytes stop.entry) limits cutter.old.given text) e)) }
-    ensures fault { IsErrOf result InputError.ReadFault → HasRisen (S.faults source.old) (S.faults source.new) }
+        (λ text. IsEventOf
+        (event_until format (stop_bytes stop.entry) limits cutter.old.given text) e)) }
+    ensures fault { IsErrOf result InputError.ReadFault
+        → HasRisen (S.faults source.old) (S.faults source.new) }
     ensures counted { S.faults source.old ≤ S.faults source.new }
 {
     let mut builder = GraphBuilder::new(alloc, limits)?;

@@ -29,7 +29,7 @@ pub struct Part {
 
 /// Reads a text up to the first line that begins with `stop`, or to its end.
 ///
-/// Lines are counted from the first that is read here, and bytes from the first that the cutter read.
+/// Lines are counted from the first that is read here, bytes from the first that the cutter read.
 /// After a refusal nothing is promised of what is left unread.
 pub fn read_part<S: Source>(
     alloc: Global,
@@ -47,19 +47,23 @@ pub fn read_part<S: Source>(
     ensures accepted { OnOk result (IfSome (ahead cutter.old (S.left source.old))
         (λ text. event_until format (Some stop.now) limits cutter.old.given text ≡ None)) }
     ensures stop { IfOk result (λ part. IfSome (ahead cutter.old (S.left source.old))
-        (λ text. option_map (λ v. v.items) part.stop ≡ bytes_of_stop (stop_of (Some stop.now) text))) }
+        (λ text. option_map (λ v. v.items) part.stop
+        ≡ bytes_of_stop (stop_of (Some stop.now) text))) }
     ensures stop_ended { IfOk result (λ part. IfSome (ahead cutter.old (S.left source.old))
         (λ text. part.stop_ended ≡ is_stop_ended (stop_of (Some stop.now) text))) }
     // What is still to come is the text behind that line.
     ensures behind { OnOk result (IfSome (ahead cutter.old (S.left source.old))
-        (λ text. ahead cutter.new (S.left source.new) ≡ Some (behind_stop (stop_of (Some stop.now) text)))) }
+        (λ text. ahead cutter.new (S.left source.new)
+        ≡ Some (behind_stop (stop_of (Some stop.now) text)))) }
     ensures given { OnOk result (IfSome (ahead cutter.old (S.left source.old))
-        (λ text. cutter.new.given + length (behind_stop (stop_of (Some stop.now) text)) ≡ cutter.old.given + length text)) }
+        (λ text. cutter.new.given + length (behind_stop (stop_of (Some stop.now) text))
+        ≡ cutter.old.given + length text)) }
     ensures refusal { OnOk result (cutter.new.refusal ≡ None) }
     // A line or a limit is told exactly where it is the first event up to the stop line.
     ensures event { IfErr result (λ e. IfSome (ahead cutter.old (S.left source.old))
         (λ text. IsEventOf (event_until format (Some stop.now) limits cutter.old.given text) e)) }
-    ensures fault { IsErrOf result InputError.ReadFault → HasRisen (S.faults source.old) (S.faults source.new) }
+    ensures fault { IsErrOf result InputError.ReadFault
+        → HasRisen (S.faults source.old) (S.faults source.new) }
     ensures counted { S.faults source.old ≤ S.faults source.new }
 {
     let read = read_lines(alloc, format, limits, cutter, source, Some(stop))?;

@@ -24,7 +24,10 @@ says Tsv (_ ∷ _ ∷ _ ∷ _ ∷ _) = Err TooMany
 says Tsv (Some src ∷ Some dst ∷ []) = Ok (Edge src dst 1)
 says Tsv (Some src ∷ Some dst ∷ Some weight ∷ []) = Ok (Edge src dst weight)
 says Tsv _ = Err BadNumber
-says Adj (Some id ∷ Some degree ∷ targets) = if nat_lt (length targets) degree then Err BadCount else if nat_lt degree (length targets) then Err TooMany else star id (all_numbers targets)
+says Adj (Some id ∷ Some degree ∷ targets) =
+    if nat_lt (length targets) degree then Err BadCount
+    else if nat_lt degree (length targets) then Err TooMany
+    else star id (all_numbers targets)
 says Adj _ = Err BadNumber
 
 -- whether there is no token, or the first begins with '#'
@@ -34,7 +37,8 @@ is_comment ([] ∷ tokens) = false
 is_comment ((byte ∷ token) ∷ tokens) = byte == 35
 
 abbrev pub said_by_bytes : Format → List ℕ → Result Line BadLine
-said_by_bytes format bytes = if is_comment (tokens bytes) then Ok Nothing else says format (numbers bytes)
+said_by_bytes format bytes =
+    if is_comment (tokens bytes) then Ok Nothing else says format (numbers bytes)
 
 -- what a line says, or how it is bad; one carriage return at its end is no part of it
 abbrev pub line_says : Format → List ℕ → Result Line BadLine

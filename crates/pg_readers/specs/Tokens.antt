@@ -19,7 +19,8 @@ with_byte byte _ tokens = (byte ∷ []) ∷ tokens
 
 abbrev pub tokens : List ℕ → List (List ℕ)
 tokens [] = []
-tokens (byte ∷ bytes) = if is_blank byte then tokens bytes else with_byte byte (begins_token bytes) (tokens bytes)
+tokens (byte ∷ bytes) =
+    if is_blank byte then tokens bytes else with_byte byte (begins_token bytes) (tokens bytes)
 
 -- the bytes behind the token at the front
 abbrev pub behind_token : List ℕ → List ℕ

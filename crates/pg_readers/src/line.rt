@@ -43,10 +43,10 @@ pub enum Line<'a> {
     Star { id: u32, targets: Targets<'a> },
 }
 
-/// What a line says, or how it is bad. The line has no line feed; one carriage return at its end is no part of it.
+/// What a line says, or how it is bad.
 ///
-/// The bytes are read once, but for the targets of a star: they are read here to be judged, and again as they are
-/// taken.
+/// The line has no line feed; one carriage return at its end is no part of it. The bytes are read
+/// once, but for the targets of a star: here to be judged, and again as they are taken.
 pub fn parse_line(format: Format, line: &[u8]) -> Result<Line<'_>, BadLine>
     ensures { result ≡ line_says format line.now }
 {

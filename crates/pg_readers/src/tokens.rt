@@ -74,7 +74,9 @@ pub fn number_token(bytes: &[u8]) -> (Option<u32>, &[u8])
     (Some(number), rest)
 }
 
-/// The number of the next token, where it is one, and the bytes behind the token. None where no token is left.
+/// The number of the next token, where it is one, and the bytes behind the token.
+///
+/// None where no token is left.
 pub fn next_number(bytes: &[u8]) -> Option<(Option<u32>, &[u8])>
     ensures none { IfNone result (numbers bytes.now ≡ []) }
     ensures some { IfSome result (λ found. numbers bytes.now ≡ found.0 ∷ numbers found.1.now) }
