@@ -1,5 +1,7 @@
 -- Where a binary search for a colour ends, and what an insertion there gives.
-use Rattle.std.proofs.Common.{◌≡◌, ℕ, zero, suc, ◌+◌, ◌<◌, ◌≤◌, ◌^◌, Bool, true, false, cond, ◌==◌, List, [], ◌∷◌, length, get_or, take, Result, Ok, Err, refl, sym, ap, ◌∙◌, subst, inl, inr, arith}
+use Rattle.std.proofs.Common.{◌≡◌, ℕ, zero, suc, ◌+◌, ◌<◌, ◌≤◌, Bool, true, false, cond, ◌==◌}
+use Rattle.std.proofs.Common.{List, [], ◌∷◌, length, get_or, take, Result, Ok, Err, refl, sym, ap}
+use Rattle.std.proofs.Common.{◌∙◌, subst, inl, inr, arith}
 use Rattle.std.specs.Prelude.{nat_lt, is_ok, ◌||◌}
 use Rattle.std.specs.List.{insert}
 use Rattle.std.specs.List.Sorted.{IsBinarySearchResult}
@@ -28,12 +30,6 @@ ascending low (x ∷ xs) own zero (suc j) le lt =
 ascending low (x ∷ xs) own (suc i) zero le lt = absurd (omega arith)
 ascending low (x ∷ xs) own (suc i) (suc j) le lt =
     ascending (x + 1) xs own.2 i j (omega arith) (omega arith)
-
-pub word_at : (low : ℕ) (xs : List ℕ) → AreColoursFrom low xs → (j : ℕ) → j < length xs
-    → get_or xs j 0 < 2 ^ 64
-word_at low [] own j lt = absurd (omega arith)
-word_at low (x ∷ xs) own zero lt = own.1
-word_at low (x ∷ xs) own (suc j) lt = word_at (x + 1) xs own.2 j (omega arith)
 
 pub has_at : (xs : List ℕ) (i : ℕ) → i < length xs → has xs (get_or xs i 0) ≡ true
 has_at [] i lt = absurd (omega arith)

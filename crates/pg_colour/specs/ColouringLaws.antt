@@ -5,7 +5,8 @@ use Rattle.pg_law.specs.Words.{IsU64}
 use Rattle.pg_law.proofs.Choices.{min_own, min_comm, min_assoc, sent_own}
 use Rattle.pg_colour.specs.Colours.{AreColours, has, least_free}
 use Rattle.pg_colour.specs.Colouring.{colouring, recoloured}
-use Rattle.pg_colour.specs.ColoursLaws.{union_own, union_unit, union_comm, union_assoc, least_free_own}
+use Rattle.pg_colour.specs.ColoursLaws.{union_own, union_unit, union_comm, union_assoc}
+use Rattle.pg_colour.specs.ColoursLaws.{least_free_own}
 
 recoloured_own : (old : ℕ) (colours : List ℕ) → IsU64 old → AreColours colours
     → IsU64 (recoloured old colours)

@@ -3,7 +3,8 @@ use Rattle.std.specs.Prelude.{nat_lt}
 use Rattle.std.proofs.lemmas.Bool.{eqb-true}
 use Rattle.pg_law.specs.Laws.{IsLawful, IsClosed, IsMonoidal, KeepsGathers}
 use Rattle.pg_law.specs.Words.{IsU64}
-use Rattle.pg_law.proofs.Choices.{min_unit, min_own, min_comm, min_assoc, sent_own, posted_own, leads_where_changed, out_covers_in, out_is_gathered}
+use Rattle.pg_law.proofs.Choices.{min_unit, min_own, min_comm, min_assoc, sent_own, posted_own}
+use Rattle.pg_law.proofs.Choices.{leads_where_changed, out_covers_in, out_is_gathered}
 use Rattle.pg_paths.specs.Plus.{plus}
 use Rattle.pg_paths.specs.ShortestPaths.{shortest_paths}
 

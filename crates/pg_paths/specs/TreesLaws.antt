@@ -6,10 +6,12 @@ use Rattle.pg_law.specs.declared.values.Datum.{Datum}
 use Rattle.pg_law.specs.Laws.{IsLawful, IsClosed, IsMonoidal, KeepsGathers, info_at}
 use Rattle.pg_law.specs.Values.{two}
 use Rattle.pg_law.specs.Words.{IsU64}
-use Rattle.pg_law.proofs.Choices.{min_own, min_comm, min_assoc, sent_own, posted_own, leads_where_changed, out_covers_in, out_is_gathered}
+use Rattle.pg_law.proofs.Choices.{min_own, min_comm, min_assoc, sent_own, posted_own}
+use Rattle.pg_law.proofs.Choices.{leads_where_changed, out_covers_in, out_is_gathered}
 use Rattle.pg_paths.specs.Plus.{plus}
 use Rattle.pg_paths.specs.Pairs.{IsPair, is_below, smaller_pair, via}
-use Rattle.pg_paths.specs.PairsLaws.{smaller_comm, smaller_assoc, smaller_unit, smaller_own, smaller_first, unreached_own, via_own, via_joined}
+use Rattle.pg_paths.specs.PairsLaws.{smaller_comm, smaller_assoc, smaller_unit, smaller_own}
+use Rattle.pg_paths.specs.PairsLaws.{smaller_first, unreached_own, via_own, via_joined}
 use Rattle.pg_paths.specs.ShortestPathsLaws.{plus_own}
 use Rattle.pg_paths.specs.Trees.{tree, offered, reached}
 

@@ -21,10 +21,12 @@ fn vertex(id: u32) -> VertexInfo
 
 /// An edge of this weight from one id to another, as the end at this side sees it.
 fn near(side: Side, ids: (u32, u32), weight: u32, centre: Datum, other: Datum) -> Near
-    ensures { let src = record { id = ids.0; in_degree = 1; out_degree = 1 } in
-        let dst = record { id = ids.1; in_degree = 1; out_degree = 1 } in
-        let edge = record { src = src; dst = dst; weight = weight } in
-        result ≡ record { side = side; edge = edge; word = 0; centre = centre; other = other } }
+    ensures src { result.edge.src ≡ record { id = ids.0; in_degree = 1; out_degree = 1 } }
+    ensures dst { result.edge.dst ≡ record { id = ids.1; in_degree = 1; out_degree = 1 } }
+    ensures weight { result.edge.weight ≡ weight }
+    ensures word { result.word ≡ 0 }
+    ensures centre { result.centre ≡ centre }
+    ensures other { result.other ≡ other }
 {
     Near {
         side,

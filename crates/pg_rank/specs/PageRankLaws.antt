@@ -10,7 +10,8 @@ use Rattle.pg_graph.specs.declared.edge.EdgeInfo.{EdgeInfo}
 use Rattle.pg_graph.specs.Multigraph.{IsEdgeInfo, opposite, takes}
 use Rattle.pg_law.specs.Laws.{IsLawful, IsClosed, IsMonoidal, KeepsGathers, info_at}
 use Rattle.pg_law.specs.Words.{IsU64}
-use Rattle.pg_law.proofs.Choices.{min_own, min_comm, min_assoc, sent_own, out_covers_in, out_is_gathered}
+use Rattle.pg_law.proofs.Choices.{min_own, min_comm, min_assoc, sent_own, out_covers_in}
+use Rattle.pg_law.proofs.Choices.{out_is_gathered}
 use Rattle.pg_rank.specs.Shares.{share, joined, change, rank}
 use Rattle.pg_rank.specs.PageRank.{page_rank}
 

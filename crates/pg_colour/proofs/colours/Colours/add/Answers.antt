@@ -26,5 +26,6 @@ returns-in_default-clause-ok c = let set = c.args.self.now in
     let colour = c.args.colour in
     let place = c.in_default.field-0 in
     let same = c.deref.ensures.value ∙ c.self.view_is in
-    let found = found_in c.deref.result.now set colour (Ok place) same c.in_default.ensures.position in
+    let answer = c.in_default.ensures.position in
+    let found = found_in c.deref.result.now set colour (Ok place) same answer in
     known set colour place c.requires found
