@@ -1,3 +1,4 @@
 pub mod Lists
 pub mod Visiting
 pub mod Steps
+pub mod Sweeping

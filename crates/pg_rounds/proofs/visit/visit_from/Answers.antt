@@ -1,5 +1,5 @@
 use Rattle.std.proofs.Common.{◌≡◌, ◌<◌, List, [], ◌∷◌, length, get_or, ℕ, ap, sym, subst, arith, cond, refl, ◌∙◌}
-use Rattle.std.specs.Prelude.{◌==◌}
+use Rattle.std.specs.Prelude.{◌==◌, OnOk}
 use Rattle.std.proofs.lemmas.Bool.{cond-true, cond-false}
 use Rattle.pg_graph.specs.declared.edge.Edge.{Edge}
 use Rattle.pg_graph.specs.Multigraph.{no_edge, is_at, side_of, edge_at}
@@ -20,35 +20,12 @@ returns-then-not-is_visitor-clause-visited g c = let p = g.P.VertexProgram.meani
     let Q = λ (es : List ℕ). IsVisited p graph c.args.values.now c.args.words.now became es c.args.messages.now c.args.messages.now c.args.changes.now.items c.args.changes.now.items in
     subst Q (sym none) (visited_none p graph c.args.values.now c.args.words.now became c.args.messages.now c.args.changes.now.items)
 
-pub deliver-requires-clause-source : goal.deliver-requires-clause-source
-deliver-requires-clause-source g c κs within = let p = g.P.VertexProgram.meaning c.args.program.now in
-    rw c.in_ok-visit.ensures.source (signal_own p c.args.graph.now c.laws_of.ensures c.edges.ensures.graph _
-    (source_own p c.args.graph.now c.laws_of.ensures c.edges.ensures.graph c.args.values.now c.args.words.now c.args.became.now c.requires.values c.requires.words c.requires.became c.args.e c.requires.e))
-
-pub deliver-requires-clause-target : goal.deliver-requires-clause-target
-deliver-requires-clause-target g c κs within = let p = g.P.VertexProgram.meaning c.args.program.now in
-    rw c.in_ok-visit.ensures.target (signal_own p c.args.graph.now c.laws_of.ensures c.edges.ensures.graph _
-    (target_own p c.args.graph.now c.laws_of.ensures c.edges.ensures.graph c.args.values.now c.args.words.now c.args.became.now c.requires.values c.requires.words c.requires.became c.args.e c.requires.e))
-
--- the ends of the edge receive its signals
-sent : (g : _) (c : goal.In_ok-note_change g) (u : ℕ) → u < length c.args.graph.now.ids → let p = g.P.VertexProgram.meaning c.args.program.now in
-    message_in c.deliver.new.messages u ≡ cond (is_at u (edge_at c.args.graph.now c.args.e))
-    (join p.combine (message_in c.args.messages.now u) (received (side_of u (edge_at c.args.graph.now c.args.e)) (signal_in (from_source p c.args.graph.now c.args.values.now c.args.words.now c.args.became.now c.args.e)) (signal_in (from_target p c.args.graph.now c.args.values.now c.args.words.now c.args.became.now c.args.e))))
-    (message_in c.args.messages.now u)
-sent g c u h = c.deliver.ensures u (omega (arith, c.requires.messages.count)) ∙ rw (c.edges.ensures.value, c.in_ok-visit.ensures.source, c.in_ok-visit.ensures.target) refl
-
 pub returns-clause-visited : goal.returns-clause-visited
 returns-clause-visited g c = let p = g.P.VertexProgram.meaning c.args.program.now in
     let graph = c.args.graph.now in
     let became = c.args.became.now in
-    let words = c.args.words.now in
     let is = ap (λ (edges : List Edge). visitor_of became (get_or edges c.args.e no_edge) == c.args.v) c.edges.ensures.value in
     let here = sym is ∙ sym c.is_visitor.ensures ∙ c.if-not-is_visitor.false in
     let one = cond-true (visitor graph became c.args.e == c.args.v) (c.args.e ∷ []) [] here in
-    let noted = rw (c.in_ok-visit.ensures.word) at c.in_ok-note_change.ensures in
-    let Q = λ (es : List ℕ). IsVisited p graph c.args.values.now words became es c.args.messages.now c.deliver.new.messages c.args.changes.now.items c.note_change.new.changes.items in
-    subst Q (sym one) (visited_edge p graph c.args.values.now words became c.args.e c.args.messages.now c.deliver.new.messages c.args.changes.now.items c.note_change.new.changes.items (omega (arith, c.requires.words.count)) c.requires.e (sent g c) noted)
-
-pub returns-clause-own : goal.returns-clause-own
-returns-clause-own g c = received_own (g.P.VertexProgram.meaning c.args.program.now) c.args.graph.now c.args.values.now c.args.words.now c.args.became.now c.laws_of.ensures c.edges.ensures.graph c.requires.values c.requires.words c.requires.became
-    c.args.e c.args.messages.now c.deliver.new.messages c.requires.e c.requires.messages c.deliver.auto.messages (sent g c)
+    let Q = λ (es : List ℕ). OnOk c.visit_here.result (IsVisited p graph c.args.values.now c.args.words.now became es c.args.messages.now c.visit_here.new.messages c.args.changes.now.items c.visit_here.new.changes.items) in
+    subst Q (sym one) c.visit_here.ensures.visited
