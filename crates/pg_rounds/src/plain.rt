@@ -6,7 +6,7 @@ ghost use Rattle.pg_law.specs.Round.{outcomes, AreApplied, values_after, message
 ghost use Rattle.pg_law.specs.Rounds.{gathers_in};
 
 use crate::apply::{apply_one, datum_of, message_of};
-use crate::visit::{deliver, visit_edge};
+use crate::visit::{deliver, runs_of, visit_edge};
 use pg_graph::Graph;
 use pg_law::{Applied, Datum, State, Steps, VertexProgram, laws_of};
 use std::alloc::{AllocError, Global};
@@ -116,10 +116,20 @@ fn scatter_all<P: VertexProgram>(
         OnOk result (messages.new ≡ map (λ v. with_signals p graph.now values.now words.now became.now v (message_in messages.old v) (edges_at graph.now v)) (vertices graph.now)) }
 {
     laws_of(program);
+    let runs = runs_of(alloc, became)?;
     let mut after = Vec::new(alloc);
     let edges = graph.edges();
     for e in 0..edges.len() as u32 {
-        let visit = visit_edge(alloc, program, graph, values, words, became, e)?;
+        let visit = visit_edge(
+            alloc,
+            program,
+            graph,
+            values,
+            words,
+            became,
+            runs.as_slice(),
+            e,
+        )?;
         after.push(visit.word)?;
         deliver(
             program,

@@ -3,10 +3,12 @@ ghost use Rattle.std.specs.Prelude.{◌≡◌, max};
 
 use crate::plain::plain_round;
 use crate::rounds::run_rounds;
-use pg_graph::{Dir, Edge, EdgeInfo, Graph, VertexInfo};
+use pg_base::Limits;
+use pg_graph::{BuildError, Dir, EdgeInfo, Graph, GraphBuilder, VertexInfo};
 use pg_law::{Applied, Datum, Delta, End, Near, Scattered, Started, State, Steps, VertexProgram};
 use std::alloc::{AllocError, Global};
 use std::marker::Brand;
+use std::process::Abort;
 use std::sync::ledger::Ledger;
 use std::test::Fail;
 
@@ -110,22 +112,20 @@ impl VertexProgram for Rising {
 }
 
 /// The ids 1 to 4, with the edges 1-2, 2-3 twice, and 4-3.
-fn small_graph(alloc: Global) -> Result<Graph, AllocError> {
-    let ids = Vec::from_slice(alloc, &[1, 2, 3, 4])?;
-    let edge = |src, dst| Edge {
-        src,
-        dst,
-        weight: 1,
-    };
-    let edges = Vec::from_slice(alloc, &[edge(0, 1), edge(1, 2), edge(1, 2), edge(3, 2)])?;
-    Graph::of(alloc, ids, edges, 0)
+fn small_graph(rt: &impl Abort, alloc: Global) -> Result<Graph, BuildError> {
+    let mut builder = GraphBuilder::new(alloc, Limits::standard())?;
+    for (src_id, dst_id) in [(1, 2), (2, 3), (2, 3), (4, 3)] {
+        assert!(rt; builder.loops() == 0);
+        builder.edge(src_id, dst_id, 1)?;
+    }
+    Ok(builder.finish()?)
 }
 
 // Two edges join vertices that execute both, two are parallel, and 3 is signalled from both sides.
 #[test]
 fn rounds_are_those_that_were_counted_by_hand(rt: HostRuntime) -> Result<(), Fail> {
     let alloc = rt.alloc();
-    let graph = small_graph(alloc)?;
+    let graph = small_graph(&rt, alloc)?;
     let rows = [
         (0, (0, 0, 0), [1, 2, 3, 4], [0, 0, 0, 0], End::Spent),
         (1, (1, 4, 8), [2, 3, 4, 4], [3, 4, 4, 4], End::Spent),
@@ -166,7 +166,7 @@ fn after_plain_rounds(alloc: Global, graph: &Graph, rounds: u32) -> Result<State
 #[test]
 fn plain_rounds_agree(rt: HostRuntime) -> Result<(), Fail> {
     let alloc = rt.alloc();
-    let graph = small_graph(alloc)?;
+    let graph = small_graph(&rt, alloc)?;
     for limit in 0..4 {
         let plain = after_plain_rounds(alloc, &graph, limit)?;
         let mut state = State::start(alloc, &Rising, &graph)?;
