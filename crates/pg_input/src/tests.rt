@@ -3,7 +3,7 @@
 ghost use Rattle.std.specs.Prelude.{◌<◌};
 ghost use Rattle.pg_base.specs.Limits.{IsWithinStandard};
 
-use crate::{InputError, Which, read_graph, read_part};
+use crate::{InputError, Part, Which, read_graph, read_part};
 use pg_base::{Limits, LineCutter, MemSource, SureSource};
 use pg_graph::{Edge, Graph};
 use pg_readers::{BadLine, Format};
@@ -151,6 +151,25 @@ fn a_failed_read_is_told(rt: HostRuntime) -> Result<(), Fail> {
     Ok(())
 }
 
+/// Reads a part up to a line that begins with `#!`, and the line behind it.
+fn read_to_stop(
+    alloc: Global,
+    limits: Limits,
+    text: &str,
+) -> Result<(Result<Part, InputError>, Vec<u8>), AllocError>
+    requires { IsWithinStandard limits }
+{
+    let bytes = Vec::from_slice(alloc, text.as_bytes())?;
+    let mut source = SureSource::new(bytes, 3);
+    let mut cutter = LineCutter::new(alloc)?;
+    let part = read_part(alloc, Format::Snap, limits, &mut cutter, &mut source, b"#!");
+    let next = match cutter.line(&mut source, 99) {
+        Ok(Some(line)) => Vec::from_slice(alloc, line.bytes)?,
+        _ => Vec::new(alloc),
+    };
+    Ok((part, next))
+}
+
 #[test]
 fn a_part_ends_at_its_stop_line(rt: HostRuntime) -> Result<(), Fail> {
     let rows: [(&str, Option<&str>, bool, &str); 4] = [
@@ -160,17 +179,8 @@ fn a_part_ends_at_its_stop_line(rt: HostRuntime) -> Result<(), Fail> {
         ("#!\n#!\n", Some("#!"), true, "#!"),
     ];
     for (text, stop, ended, next) in rows {
-        let bytes = Vec::from_slice(rt.alloc(), text.as_bytes())?;
-        let mut source = SureSource::new(bytes, 3);
-        let mut cutter = LineCutter::new(rt.alloc())?;
-        match read_part(
-            rt.alloc(),
-            Format::Snap,
-            Limits::standard(),
-            &mut cutter,
-            &mut source,
-            b"#!",
-        ) {
+        let (part, behind) = read_to_stop(rt.alloc(), Limits::standard(), text)?;
+        match part {
             Ok(part) => {
                 let found = part.stop.as_ref().map(|line| line.as_slice());
                 assert!(rt; found == stop.map(|line| line.as_bytes()), "{text}");
@@ -178,43 +188,25 @@ fn a_part_ends_at_its_stop_line(rt: HostRuntime) -> Result<(), Fail> {
             }
             Err(error) => assert!(rt; false, "{text}: {error:?}"),
         }
-        match cutter.line(&mut source, 99) {
-            Ok(line) => assert!(rt;
-                line.map_or(next.is_empty(), |line| line.bytes == next.as_bytes()),
-                "{text}"
-            ),
-            Err(_) => assert!(rt; false, "{text}"),
-        }
+        assert_eq!(rt; behind.as_slice(), next.as_bytes(), "{text}");
     }
     Ok(())
 }
 
 #[test]
 fn a_stop_line_past_the_limit_of_bytes_is_refused(rt: HostRuntime) -> Result<(), Fail> {
-    let bytes = Vec::from_slice(rt.alloc(), b"1 2\n#!")?;
-    let mut source = SureSource::new(bytes, 3);
-    let mut cutter = LineCutter::new(rt.alloc())?;
     let limits = Limits {
         vertices: 9,
         edges: 9,
         bytes: 5,
     };
-    match read_part(
-        rt.alloc(),
-        Format::Snap,
-        limits,
-        &mut cutter,
-        &mut source,
-        b"#!",
-    ) {
+    let limit = InputError::Limit {
+        which: Which::Bytes,
+        limit: 5,
+    };
+    match read_to_stop(rt.alloc(), limits, "1 2\n#!")?.0 {
         Ok(_) => assert!(rt; false),
-        Err(error) => assert_eq!(rt;
-            error,
-            InputError::Limit {
-                which: Which::Bytes,
-                limit: 5
-            }
-        ),
+        Err(error) => assert_eq!(rt; error, limit),
     }
     Ok(())
 }
