@@ -6,9 +6,10 @@ use std::test::Fail;
 
 #[test]
 fn a_bad_line_has_the_first_kind_that_applies(rt: HostRuntime) -> Result<(), Fail> {
-    let rows: [(Format, &[u8], BadLine); 12] = [
+    let rows: [(Format, &[u8], BadLine); 13] = [
         (Format::Snap, b"7", BadLine::TooFew),
-        (Format::Snap, b"x #", BadLine::TooFew),
+        (Format::Snap, b"x", BadLine::TooFew),
+        (Format::Snap, b"x #", BadLine::BadNumber),
         (Format::Snap, b"4294967296 1", BadLine::BadNumber),
         (Format::Snap, b"1\r2 3", BadLine::BadNumber),
         (Format::Snap, b"1 2\r\r", BadLine::BadNumber),
