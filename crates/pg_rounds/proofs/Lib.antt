@@ -1,4 +1,6 @@
 pub mod Lists
+pub mod Carrying
+pub mod Gathering
 pub mod Visiting
 pub mod Steps
 pub mod Sweeping

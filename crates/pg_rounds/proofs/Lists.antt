@@ -1,6 +1,6 @@
 -- Lists that are filtered and joined, and what stands in them.
 use Rattle.std.proofs.Common.{◌≡◌, ℕ, ◌+◌, ◌<◌, Bool, true, false, cond, ◌&&◌, ◌||◌, List, [], ◌∷◌, ◌++◌, length, get_or, refl, sym, ◌∙◌, ap, arith}
-use Rattle.std.specs.Prelude.{filter, fold, ◌==◌}
+use Rattle.std.specs.Prelude.{filter, fold, map, ◌==◌}
 use Rattle.std.specs.List.{list_any, flat_map, range_with_len, AllByRecursion}
 use Rattle.std.proofs.lemmas.List.Sums.{fold-append, length-filter}
 use Rattle.pg_graph.proofs.Numbers.{length_filter_more}
@@ -23,6 +23,14 @@ fold-flat_map f h b (x ∷ xs) = fold-append f b (h x) (flat_map h xs) ∙ fold-
 pub filter-flat_map : {X A : Type 0} (p : A → Bool) (h : X → List A) (xs : List X) → filter p (flat_map h xs) ≡ flat_map (λ x. filter p (h x)) xs
 filter-flat_map p h [] = refl
 filter-flat_map p h (x ∷ xs) = filter-append p (h x) (flat_map h xs) ∙ ap (λ ys. filter p (h x) ++ ys) (filter-flat_map p h xs)
+
+pub map_agree : {X Y : Type 0} (f h : X → Y) → ((x : X) → f x ≡ h x) → (xs : List X) → map f xs ≡ map h xs
+map_agree f h same [] = refl
+map_agree f h same (x ∷ xs) = rw (same x) (ap (λ ys. h x ∷ ys) (map_agree f h same xs))
+
+pub map_twice : {X Y Z : Type 0} (h : Y → Z) (f : X → Y) (xs : List X) → map h (map f xs) ≡ map (λ x. h (f x)) xs
+map_twice h f [] = refl
+map_twice h f (x ∷ xs) = ap (λ ys. h (f x) ∷ ys) (map_twice h f xs)
 
 pub flat_map_agree : {X A : Type 0} (h k : X → List A) → ((x : X) → h x ≡ k x) → (xs : List X) → flat_map h xs ≡ flat_map k xs
 flat_map_agree h k same [] = refl

@@ -1,3 +1,5 @@
+pub mod Carries
+pub mod Gathers
 pub mod Visits
 pub mod Rising
 pub mod RisingLaws

@@ -1,5 +1,5 @@
 -- In what order a round visits its edges, and what it notes of their words.
-use Rattle.std.specs.Prelude.{◌≡◌, ℕ, ◌<◌, ◌==◌, Bool, Option, is_some, cond, List, [], ◌∷◌, ◌++◌, length, slice_index, set, filter, fold, All}
+use Rattle.std.specs.Prelude.{◌≡◌, ℕ, ◌<◌, ◌==◌, Bool, Option, None, is_some, cond, List, [], ◌∷◌, ◌++◌, length, slice_index, slice_index_or, set, filter, fold, All}
 use Rattle.std.specs.List.{list_any, flat_map}
 use Rattle.pg_graph.specs.declared.edge.Edge.{Edge}
 use Rattle.pg_graph.specs.Multigraph.{Multigraph, edges_at, edge_at, is_at}
@@ -8,17 +8,18 @@ use Rattle.pg_law.specs.declared.values.Applied.{Applied}
 use Rattle.pg_law.specs.Program.{Program}
 use Rattle.pg_law.specs.Monoid.{part}
 use Rattle.pg_law.specs.Configuration.{Configuration, message_in}
-use Rattle.pg_law.specs.Round.{became_at, final_word, with_signals}
+use Rattle.pg_law.specs.Round.{final_word, with_signals}
 use Rattle.pg_rounds.specs.declared.draft.Change.{Change}
 
-abbrev pub executes_in : {Carry : Type 0} → List (Option (Applied Carry)) → ℕ → Bool
-executes_in became v = is_some (became_at became v)
+-- whether a vertex executes, by what it became or by its carry
+abbrev pub executes_in : {X : Type 0} → List (Option X) → ℕ → Bool
+executes_in became v = is_some (slice_index_or became v None)
 
 -- the vertex that visits an edge: its source where that executes, and otherwise its target
-abbrev pub visitor_of : {Carry : Type 0} → List (Option (Applied Carry)) → Edge → ℕ
+abbrev pub visitor_of : {X : Type 0} → List (Option X) → Edge → ℕ
 visitor_of became edge = cond (executes_in became edge.src) edge.src edge.dst
 
-abbrev pub visitor : {Carry : Type 0} → Multigraph → List (Option (Applied Carry)) → ℕ → ℕ
+abbrev pub visitor : {X : Type 0} → Multigraph → List (Option X) → ℕ → ℕ
 visitor g became e = visitor_of became (edge_at g e)
 
 -- the edges that a vertex visits, ascending

@@ -2,7 +2,7 @@
 ghost use Rattle.std.specs.Prelude.{◌≡◌, [], ◌∷◌, ◌++◌, ◌<◌, is_some, length, All, IfOk, OnOk, if◌then◌else◌};
 ghost use Rattle.pg_rounds.specs.Visits.{with_change, written};
 
-use pg_law::{Applied, Datum};
+use pg_law::Datum;
 use std::alloc::{AllocError, Global};
 
 /// An edge, by its number, gets another word.
@@ -14,12 +14,12 @@ pub struct Change {
 
 /// What a round writes before its end. The lists are kept from round to round.
 ///
-/// `became[v]` is what the vertex `v` becomes, and `values[v]` and `messages[v]` are its datum and its
-/// message after that. `frontier` has the vertices that execute, ascending, and `changes` the edges
-/// whose words change, in the order of their visits.
+/// `values[v]` and `messages[v]` are the datum and the message of the vertex `v` after apply, and
+/// `carries[v]` is there where it executes. `frontier` has the vertices that execute, ascending, and
+/// `changes` the edges whose words change, in the order of their visits.
 #[derive(Drop)]
 pub struct Draft<C> {
-    pub became: Vec<Option<Applied<C>>>,
+    pub carries: Vec<Option<C>>,
     pub frontier: Vec<u32>,
     pub values: Vec<Datum>,
     pub messages: Vec<Option<u64>>,
@@ -33,7 +33,7 @@ impl<C: Copy> Draft<C> {
     {
         let room = vertices as usize;
         Ok(Draft {
-            became: Vec::with_capacity(alloc, room)?,
+            carries: Vec::with_capacity(alloc, room)?,
             frontier: Vec::with_capacity(alloc, room)?,
             values: Vec::with_capacity(alloc, room)?,
             messages: Vec::with_capacity(alloc, room)?,
@@ -43,37 +43,37 @@ impl<C: Copy> Draft<C> {
 
     /// Empties it, and keeps the room.
     pub fn clear(&mut self)
-        ensures became { self.new.became.items ≡ [] }
+        ensures carries { self.new.carries.items ≡ [] }
         ensures frontier { self.new.frontier.items ≡ [] }
         ensures values { self.new.values.items ≡ [] }
         ensures messages { self.new.messages.items ≡ [] }
         ensures changes { self.new.changes.items ≡ [] }
     {
-        self.became.clear();
+        self.carries.clear();
         self.frontier.clear();
         self.values.clear();
         self.messages.clear();
         self.changes.clear();
     }
 
-    /// Adds what the next vertex becomes, and its datum and message after that.
+    /// Adds the next vertex, by its carry where it executes, and its datum and message after apply.
     pub fn add(
         &mut self,
         v: u32,
-        became: Option<Applied<C>>,
+        carry: Option<C>,
         datum: Datum,
         message: Option<u64>,
     ) -> Result<(), AllocError>
-        ensures became { OnOk result (self.new.became.items ≡ self.old.became.items ++ became ∷ []) }
-        ensures frontier { OnOk result (self.new.frontier.items ≡ (if is_some became then self.old.frontier.items ++ v ∷ [] else self.old.frontier.items)) }
+        ensures carries { OnOk result (self.new.carries.items ≡ self.old.carries.items ++ carry ∷ []) }
+        ensures frontier { OnOk result (self.new.frontier.items ≡ (if is_some carry then self.old.frontier.items ++ v ∷ [] else self.old.frontier.items)) }
         ensures values { OnOk result (self.new.values.items ≡ self.old.values.items ++ datum ∷ []) }
         ensures messages { OnOk result (self.new.messages.items ≡ self.old.messages.items ++ message ∷ []) }
         ensures changes { self.new.changes.items ≡ self.old.changes.items }
     {
-        if became.is_some() {
+        if carry.is_some() {
             self.frontier.push(v)?;
         }
-        self.became.push(became)?;
+        self.carries.push(carry)?;
         self.values.push(datum)?;
         self.messages.push(message)?;
         Ok(())

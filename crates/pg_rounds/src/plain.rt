@@ -4,9 +4,10 @@ ghost use Rattle.pg_graph.specs.Multigraph.{vertices, edge_numbers, edges_at};
 ghost use Rattle.pg_law.specs.Configuration.{Configuration, AreData, AreWords, AreMessages, IsFit, signalled, message_in};
 ghost use Rattle.pg_law.specs.Round.{outcomes, AreApplied, values_after, messages_after, final_word, with_signals, round as round_of};
 ghost use Rattle.pg_law.specs.Rounds.{gathers_in};
+ghost use Rattle.pg_rounds.specs.Carries.{carry_in};
 
-use crate::apply::{apply_one, datum_of, message_of};
-use crate::visit::{deliver, runs_of, visit_edge};
+use crate::apply::{apply_one, carry_of, datum_of, message_of};
+use crate::visit::{deliver, visit_edge};
 use pg_graph::Graph;
 use pg_law::{Applied, Datum, State, Steps, VertexProgram, laws_of};
 use std::alloc::{AllocError, Global};
@@ -96,6 +97,20 @@ fn messages_of<P: VertexProgram>(
     Ok(after)
 }
 
+/// The carries of the vertices.
+fn carries_of<C: Copy>(
+    alloc: Global,
+    became: &[Option<Applied<C>>],
+) -> Result<Vec<Option<C>>, AllocError>
+    ensures { IfOk result (λ carries. carries.items ≡ map carry_in became.now) }
+{
+    let mut carries = Vec::new(alloc);
+    for applied in became {
+        carries.push(carry_of(applied))?;
+    }
+    Ok(carries)
+}
+
 /// The edges are visited ascending, each for its source and then for its target.
 fn scatter_all<P: VertexProgram>(
     alloc: Global,
@@ -116,20 +131,11 @@ fn scatter_all<P: VertexProgram>(
         OnOk result (messages.new ≡ map (λ v. with_signals p graph.now values.now words.now became.now v (message_in messages.old v) (edges_at graph.now v)) (vertices graph.now)) }
 {
     laws_of(program);
-    let runs = runs_of(alloc, became)?;
+    let carries = carries_of(alloc, became)?;
     let mut after = Vec::new(alloc);
     let edges = graph.edges();
     for e in 0..edges.len() as u32 {
-        let visit = visit_edge(
-            alloc,
-            program,
-            graph,
-            values,
-            words,
-            became,
-            runs.as_slice(),
-            e,
-        )?;
+        let visit = visit_edge(alloc, program, graph, values, words, carries.as_slice(), e)?;
         after.push(visit.word)?;
         deliver(
             program,

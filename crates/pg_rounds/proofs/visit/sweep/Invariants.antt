@@ -1,5 +1,6 @@
 use Rattle.std.specs.List.{range_with_len}
 use Rattle.pg_law.specs.Configuration.{AreMessages}
+use Rattle.pg_rounds.specs.Carries.{outcomes_with}
 use Rattle.pg_rounds.specs.Visits.{IsVisited}
 use Rattle.pg_rounds.proofs.visit.sweep.Given as goal
 
@@ -7,6 +8,6 @@ use Rattle.pg_rounds.proofs.visit.sweep.Given as goal
 abbrev pub invariant-loop-e : goal.invariant-loop-e
 invariant-loop-e g l = let p = g.P.VertexProgram.meaning l.program in
     record {
-      visited : IsVisited p l.graph l.values l.words l.became (range_with_len 0 l.e) l.initial.messages l.messages l.initial.changes.items l.changes.items;
+      visited : IsVisited p l.graph l.values l.words (outcomes_with p l.graph l.carries) (range_with_len 0 l.e) l.initial.messages l.messages l.initial.changes.items l.changes.items;
       own : AreMessages p l.graph l.messages;
     }

@@ -2,6 +2,7 @@ use Rattle.std.proofs.Common.{ℕ, List, [], ◌∷◌, get_or, take, cond, ap, 
 use Rattle.std.specs.Prelude.{◌==◌, filter}
 use Rattle.std.proofs.lemmas.List.{take_all}
 use Rattle.std.proofs.lemmas.List.Elements.{filter_more}
+use Rattle.pg_rounds.specs.Carries.{outcomes_with}
 use Rattle.pg_rounds.specs.Visits.{visitor, IsVisited}
 use Rattle.pg_rounds.proofs.Steps.{visited_none, visited_then}
 use Rattle.pg_rounds.proofs.visit.visit_around.Goals as goal
@@ -17,14 +18,14 @@ visit_from-requires-clause-at g c κs within = (c.edges_of-around.ensures.within
 
 pub loop-e-init : goal.loop-e-init
 loop-e-init g c = record {
-  visited = visited_none (g.P.VertexProgram.meaning c.args.program.now) c.args.graph.now c.args.values.now c.args.words.now c.args.became.now c.args.messages.now c.args.changes.now.items;
+  visited = visited_none (g.P.VertexProgram.meaning c.args.program.now) c.args.graph.now c.args.values.now c.args.words.now (outcomes_with (g.P.VertexProgram.meaning c.args.program.now) c.args.graph.now c.args.carries.now) c.args.messages.now c.args.changes.now.items;
   own = c.requires.messages;
 }
 
 pub loop-e-preserved : goal.loop-e-preserved
 loop-e-preserved g c = let p = g.P.VertexProgram.meaning c.args.program.now in
     let graph = c.args.graph.now in
-    let became = c.args.became.now in
+    let became = (outcomes_with (g.P.VertexProgram.meaning c.args.program.now) c.args.graph.now c.args.carries.now) in
     let around = c.edges_of-around.result.now in
     let mine = λ (e : ℕ). visitor graph became e == c.args.v in
     let e = get_or around c.loop-e.e-index 0 in
@@ -39,7 +40,7 @@ loop-e-preserved g c = let p = g.P.VertexProgram.meaning c.args.program.now in
 pub returns-clause-visited : goal.returns-clause-visited
 returns-clause-visited g c = let p = g.P.VertexProgram.meaning c.args.program.now in
     let graph = c.args.graph.now in
-    let became = c.args.became.now in
+    let became = (outcomes_with (g.P.VertexProgram.meaning c.args.program.now) c.args.graph.now c.args.carries.now) in
     let around = c.edges_of-around.result.now in
     let all = ap (filter (λ e. visitor graph became e == c.args.v)) (take_all c.loop-e.e-index around c.loop-e-test.false ∙ c.edges_of-around.ensures.value) in
     let Q = λ (es : List ℕ). IsVisited p graph c.args.values.now c.args.words.now became es c.args.messages.now c.loop-e.messages c.args.changes.now.items c.loop-e.changes.items in

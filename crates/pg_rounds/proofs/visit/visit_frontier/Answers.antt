@@ -7,15 +7,17 @@ use Rattle.std.proofs.lemmas.List.Elements.{All-nil}
 use Rattle.pg_graph.proofs.Numbers.{filter_numbers_each}
 use Rattle.pg_graph.specs.Multigraph.{vertices}
 use Rattle.pg_rounds.specs.declared.draft.Change.{Change}
+use Rattle.pg_rounds.specs.Carries.{outcomes_with}
 use Rattle.pg_rounds.specs.Visits.{executes_in, visits_of, visits, IsVisited}
+use Rattle.pg_rounds.proofs.Carrying.{with_own}
 use Rattle.pg_rounds.proofs.Steps.{visited_none, visited_then}
 use Rattle.pg_rounds.proofs.Visiting.{messages_all, words_all}
 use Rattle.pg_rounds.proofs.visit.visit_frontier.Goals as goal
 
 -- each of the frontier is a vertex that executes
-each_runs : (g : _) (c : goal.After-visit_around-arg-in-loop-v-1 g) → (get_or c.args.frontier.now c.loop-v.v-index 0 < length c.args.graph.now.ids) × (executes_in c.args.became.now (get_or c.args.frontier.now c.loop-v.v-index 0) ≡ true)
-each_runs g c = let runs = filter_numbers_each (executes_in c.args.became.now) (length c.args.graph.now.ids) in
-    let P = λ (v : ℕ). (v < length c.args.graph.now.ids) × (executes_in c.args.became.now v ≡ true) in
+each_runs : (g : _) (c : goal.After-visit_around-arg-in-loop-v-1 g) → (get_or c.args.frontier.now c.loop-v.v-index 0 < length c.args.graph.now.ids) × (executes_in (outcomes_with (g.P.VertexProgram.meaning c.args.program.now) c.args.graph.now c.args.carries.now) (get_or c.args.frontier.now c.loop-v.v-index 0) ≡ true)
+each_runs g c = let runs = filter_numbers_each (executes_in (outcomes_with (g.P.VertexProgram.meaning c.args.program.now) c.args.graph.now c.args.carries.now)) (length c.args.graph.now.ids) in
+    let P = λ (v : ℕ). (v < length c.args.graph.now.ids) × (executes_in (outcomes_with (g.P.VertexProgram.meaning c.args.program.now) c.args.graph.now c.args.carries.now) v ≡ true) in
     let Q = λ (vs : List ℕ). All P vs in
     subst Q (sym c.requires.frontier) runs c.loop-v.v-index 0 c.loop-v-test.true
 
@@ -30,14 +32,14 @@ visit_around-requires-clause-runs g c κs within = (each_runs g c).1
 
 pub loop-v-init : goal.loop-v-init
 loop-v-init g c = record {
-  visited = visited_none (g.P.VertexProgram.meaning c.args.program.now) c.args.graph.now c.args.values.now c.args.words.now c.args.became.now c.args.messages.now c.args.changes.now.items;
+  visited = visited_none (g.P.VertexProgram.meaning c.args.program.now) c.args.graph.now c.args.values.now c.args.words.now (outcomes_with (g.P.VertexProgram.meaning c.args.program.now) c.args.graph.now c.args.carries.now) c.args.messages.now c.args.changes.now.items;
   own = c.requires.messages;
 }
 
 pub loop-v-preserved : goal.loop-v-preserved
 loop-v-preserved g c = let p = g.P.VertexProgram.meaning c.args.program.now in
     let graph = c.args.graph.now in
-    let became = c.args.became.now in
+    let became = (outcomes_with (g.P.VertexProgram.meaning c.args.program.now) c.args.graph.now c.args.carries.now) in
     let frontier = c.args.frontier.now in
     let v = get_or frontier c.loop-v.v-index 0 in
     let so_far = visits graph became (take c.loop-v.v-index frontier) in
@@ -50,21 +52,21 @@ loop-v-preserved g c = let p = g.P.VertexProgram.meaning c.args.program.now in
     }
 
 -- all that execute have visited their edges
-all_visited : (g : _) (c : goal.After-loop-v g) → IsVisited (g.P.VertexProgram.meaning c.args.program.now) c.args.graph.now c.args.values.now c.args.words.now c.args.became.now (visits c.args.graph.now c.args.became.now (filter (executes_in c.args.became.now) (vertices c.args.graph.now))) c.args.messages.now c.loop-v.messages [] c.loop-v.changes.items
+all_visited : (g : _) (c : goal.After-loop-v g) → IsVisited (g.P.VertexProgram.meaning c.args.program.now) c.args.graph.now c.args.values.now c.args.words.now (outcomes_with (g.P.VertexProgram.meaning c.args.program.now) c.args.graph.now c.args.carries.now) (visits c.args.graph.now (outcomes_with (g.P.VertexProgram.meaning c.args.program.now) c.args.graph.now c.args.carries.now) (filter (executes_in (outcomes_with (g.P.VertexProgram.meaning c.args.program.now) c.args.graph.now c.args.carries.now)) (vertices c.args.graph.now))) c.args.messages.now c.loop-v.messages [] c.loop-v.changes.items
 all_visited g c = let p = g.P.VertexProgram.meaning c.args.program.now in
     let graph = c.args.graph.now in
-    let became = c.args.became.now in
+    let became = (outcomes_with (g.P.VertexProgram.meaning c.args.program.now) c.args.graph.now c.args.carries.now) in
     let all = ap (visits graph became) (take_all c.loop-v.v-index c.args.frontier.now c.loop-v-test.false ∙ c.requires.frontier) in
     let Q = λ (es : List ℕ). IsVisited p graph c.args.values.now c.args.words.now became es c.args.messages.now c.loop-v.messages c.args.changes.now.items c.loop-v.changes.items in
     let R = λ (changes : List Change). IsVisited p graph c.args.values.now c.args.words.now became (visits graph became (filter (executes_in became) (vertices graph))) c.args.messages.now c.loop-v.messages changes c.loop-v.changes.items in
     subst R c.requires.none (subst Q all c.loop-v.invariant.visited)
 
 pub returns-clause-words : goal.returns-clause-words
-returns-clause-words g c = words_all (g.P.VertexProgram.meaning c.args.program.now) c.args.graph.now c.args.values.now c.args.words.now c.args.became.now c.laws_of.ensures c.vertices.ensures.graph c.requires.values c.requires.words c.requires.became
+returns-clause-words g c = words_all (g.P.VertexProgram.meaning c.args.program.now) c.args.graph.now c.args.values.now c.args.words.now (outcomes_with (g.P.VertexProgram.meaning c.args.program.now) c.args.graph.now c.args.carries.now) c.laws_of.ensures c.vertices.ensures.graph c.requires.values c.requires.words (with_own (g.P.VertexProgram.meaning c.args.program.now) c.args.graph.now c.args.carries.now c.laws_of.ensures c.vertices.ensures.graph c.requires.carries)
     c.args.messages.now c.loop-v.messages c.loop-v.changes.items c.requires.messages (all_visited g c)
 
 pub returns-clause-messages : goal.returns-clause-messages
-returns-clause-messages g c = messages_all (g.P.VertexProgram.meaning c.args.program.now) c.args.graph.now c.args.values.now c.args.words.now c.args.became.now c.laws_of.ensures c.vertices.ensures.graph c.requires.values c.requires.words c.requires.became
+returns-clause-messages g c = messages_all (g.P.VertexProgram.meaning c.args.program.now) c.args.graph.now c.args.values.now c.args.words.now (outcomes_with (g.P.VertexProgram.meaning c.args.program.now) c.args.graph.now c.args.carries.now) c.laws_of.ensures c.vertices.ensures.graph c.requires.values c.requires.words (with_own (g.P.VertexProgram.meaning c.args.program.now) c.args.graph.now c.args.carries.now c.laws_of.ensures c.vertices.ensures.graph c.requires.carries)
     c.args.messages.now c.loop-v.messages c.loop-v.changes.items c.requires.messages (all_visited g c) c.loop-v.invariant.own.count
 
 pub returns-clause-inside : goal.returns-clause-inside

@@ -1,5 +1,6 @@
 use Rattle.std.proofs.Common.{take}
 use Rattle.pg_law.specs.Configuration.{AreMessages}
+use Rattle.pg_rounds.specs.Carries.{outcomes_with}
 use Rattle.pg_rounds.specs.Visits.{visits, IsVisited}
 use Rattle.pg_rounds.proofs.visit.visit_frontier.Given as goal
 
@@ -7,6 +8,6 @@ use Rattle.pg_rounds.proofs.visit.visit_frontier.Given as goal
 abbrev pub invariant-loop-v : goal.invariant-loop-v
 invariant-loop-v g l = let p = g.P.VertexProgram.meaning l.program in
     record {
-      visited : IsVisited p l.graph l.values l.words l.became (visits l.graph l.became (take l.v-index l.frontier)) l.initial.messages l.messages l.initial.changes.items l.changes.items;
+      visited : IsVisited p l.graph l.values l.words (outcomes_with p l.graph l.carries) (visits l.graph (outcomes_with p l.graph l.carries) (take l.v-index l.frontier)) l.initial.messages l.messages l.initial.changes.items l.changes.items;
       own : AreMessages p l.graph l.messages;
     }
