@@ -1,0 +1,114 @@
+-- Each word that may follow is one more behind what stands, and there are ten at most.
+use Rattle.std.proofs.Common.{◌≡◌, ℕ, ◌+◌, ◌*◌, ◌<◌, ◌≤◌, List, [], ◌∷◌, length, Bool, true, false, ◌||◌, cond, Some, Contains, count_by, refl, sym, ◌∙◌, eqb, arith, zero, suc, lit<, lit≤, subst}
+use Rattle.std.proofs.lemmas.Bool.{eq-eqb}
+use Rattle.std.specs.List.{slice_index_or}
+use Rattle.std.proofs.lemmas.List.Sums.{count_by-le-length, sum_by-cons}
+use Rattle.pg_words.specs.Names.{Word, options}
+use Rattle.pg_words.specs.Options.{stands, with_value}
+use Rattle.pg_words.specs.Reading.{next}
+use Rattle.pg_words.specs.declared.choices.Choices.{Choices}
+use Rattle.pg_words.specs.declared.names.OptionName.{OptionName}
+use Rattle.pg_words.specs.declared.names.OptionName.TheVariants as option
+use Rattle.pg_words.specs.declared.reading.Reading.{Reading}
+use Rattle.pg_words.specs.declared.reading.Reading.TheVariants as reading
+use Rattle.pg_words.proofs.Naming.{engine_step, program_step, option_step, value_step}
+use Rattle.pg_words.proofs.Choosing.{row, stands-with_value}
+
+-- each option is among the options
+options-row : (option : OptionName) → Contains options option
+options-row option.Format = (0, lit< tt, refl)
+options-row option.Rounds = (1, lit< tt, refl)
+options-row option.Source = (2, lit< tt, refl)
+options-row option.Tolerance = (3, lit< tt, refl)
+
+module _ {X : Type 0} (p q : X → Bool) (keeps : (x : X) → p x ≡ true → q x ≡ true) where
+  one-keeps : (b c : Bool) → (b ≡ true → c ≡ true) → cond b 1 0 ≤ cond c 1 0
+  one-keeps true true kept = omega arith
+  one-keeps true false kept = let no = kept refl in cc
+  one-keeps false true kept = omega arith
+  one-keeps false false kept = omega arith
+
+  -- what passes a wider test is as many
+  count_by-keeps : (xs : List X) → count_by p xs ≤ count_by q xs
+  count_by-keeps [] = omega arith
+  count_by-keeps (x ∷ xs) =
+      let first = one-keeps (p x) (q x) (keeps x) in
+      let others = count_by-keeps xs in
+      let narrow = sum_by-cons (λ (y : X). cond (p y) 1 0) x xs in
+      let wide = sum_by-cons (λ (y : X). cond (q y) 1 0) x xs in
+      omega arith
+
+  -- and more where one passes only that
+  count_by-gains : (xs : List X) (x : X) (k : ℕ) → k < length xs → slice_index_or xs k x ≡ x
+      → p x ≡ false → q x ≡ true → count_by p xs < count_by q xs
+  count_by-gains [] x k inside is fails passes = absurd (omega arith)
+  count_by-gains (y ∷ ys) x zero inside is fails passes =
+      let without : cond {A = ℕ} (p y) 1 0 ≡ 0 = rw (is, fails) refl in
+      let within : cond {A = ℕ} (q y) 1 0 ≡ 1 = rw (is, passes) refl in
+      let others = count_by-keeps ys in
+      let narrow = sum_by-cons (λ (z : X). cond (p z) 1 0) y ys in
+      let wide = sum_by-cons (λ (z : X). cond (q z) 1 0) y ys in
+      omega arith
+  count_by-gains (y ∷ ys) x (suc k) inside is fails passes =
+      let first = one-keeps (p y) (q y) (keeps y) in
+      let others = count_by-gains ys x k (omega arith) is fails passes in
+      let narrow = sum_by-cons (λ (z : X). cond (p z) 1 0) y ys in
+      let wide = sum_by-cons (λ (z : X). cond (q z) 1 0) y ys in
+      omega arith
+
+-- how many options stand
+abbrev pub count : Choices → ℕ
+count c = count_by (stands c) options
+
+or_right : (a b : Bool) → b ≡ true → (a || b) ≡ true
+or_right true b e = refl
+or_right false b e = e
+
+-- one more stands with a new option
+count-with_value : (c d : Choices) (option : OptionName) (word : Word) → stands c option ≡ false
+    → with_value c option word ≡ Some d → count c < count d
+count-with_value c d option word new e =
+    let found = options-row option in
+    count_by-gains (stands c) (stands d)
+    (λ other stood. stands-with_value c d option word e other ∙ or_right (eqb (row option) (row other)) (stands c other) stood)
+    options option found.0 found.1 found.2 new
+    (stands-with_value c d option word e option ∙ rw (eq-eqb (row option) (row option) refl) refl)
+
+-- at least how many words are behind what stands
+abbrev pub words_behind : Reading → ℕ
+words_behind reading.Start = 0
+words_behind (reading.Program engine) = 1
+words_behind (reading.Options head c) = 2 + 2 * count c
+words_behind (reading.Value head c option) = 3 + 2 * count c
+
+pub words_behind-le : (standing : Reading) → words_behind standing ≤ 3 + 2 * length options
+words_behind-le reading.Start = lit≤ tt
+words_behind-le (reading.Program engine) = lit≤ tt
+words_behind-le (reading.Options head c) = let most = count_by-le-length (stands c) options in omega arith
+words_behind-le (reading.Value head c option) = let most = count_by-le-length (stands c) options in omega arith
+
+-- an option that waits for its value doesn't stand yet
+abbrev pub IsFresh : Reading → Type 0
+IsFresh (reading.Value head c option) = stands c option ≡ false
+IsFresh _ = Unit {0}
+
+-- what a word more makes of what stands
+pub record IsStep (standing more : Reading) : Type 0 where
+  pub fresh : IsFresh more
+  pub further : words_behind standing < words_behind more
+
+-- a word that may follow makes a step
+pub next-IsStep : (standing more : Reading) (word : Word) → IsFresh standing → next standing word ≡ Some more → IsStep standing more
+next-IsStep reading.Start more word fresh e =
+    let step = engine_step word more e in
+    subst (IsStep reading.Start) (sym step.is) (record { fresh = tt; further = lit< tt })
+next-IsStep (reading.Program engine) more word fresh e =
+    let step = program_step engine word more e in
+    subst (IsStep (reading.Program engine)) (sym step.is) (record { fresh = tt; further = lit< tt })
+next-IsStep (reading.Options head c) more word fresh e =
+    let step = option_step head c word more e in
+    subst (IsStep (reading.Options head c)) (sym step.is) (record { fresh = step.open_yet; further = omega arith })
+next-IsStep (reading.Value head c option) more word fresh e =
+    let step = value_step head c option word more e in
+    let one = count-with_value c step.chosen option word fresh step.valued in
+    subst (IsStep (reading.Value head c option)) (sym step.is) (record { fresh = tt; further = omega arith })

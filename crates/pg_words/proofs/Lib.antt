@@ -1,0 +1,7 @@
+mod Choosing
+mod Completing
+mod Counting
+mod Naming
+mod Ordering
+mod Parsing
+mod Placing

@@ -1,0 +1,59 @@
+-- Which words name which job, and where words that name none go wrong.
+use Rattle.std.specs.Prelude.{◌≡◌, ◌≢◌, ℕ, ◌+◌, ◌<◌, ◌≤◌, List, [], ◌∷◌, ◌++◌, length, take, Option, Some, IsTrue, All, AllPairs, flat_map, option_and_then}
+use Rattle.pg_words.specs.Names.{Word, engine_word, program_word, option_word}
+use Rattle.pg_words.specs.Options.{takes, no_choices, with_value, job_from}
+use Rattle.pg_words.specs.declared.choices.Choices.{Choices}
+use Rattle.pg_words.specs.declared.head.Head.{Head}
+use Rattle.pg_words.specs.declared.names.OptionName.{OptionName}
+use Rattle.pg_words.specs.declared.job.Job.{Job}
+
+-- the words before the options
+abbrev pub head_words : Head → List Word
+head_words head = engine_word head.engine ∷ program_word head.program ∷ []
+
+-- an option that stands, and the word behind it
+pub record Setting : Type 0 where
+  pub option : OptionName
+  pub value : Word
+
+-- the words of settings, two for each
+abbrev pub setting_words : List Setting → List Word
+setting_words settings =
+    flat_map (λ setting. option_word setting.option ∷ setting.value ∷ []) settings
+
+-- what settings choose over what was chosen before, or None where a word is no value of its option
+abbrev pub chosen : Choices → List Setting → Option Choices
+chosen c [] = Some c
+chosen c (setting ∷ settings) =
+    option_and_then (λ more. chosen more settings) (with_value c setting.option setting.value)
+
+-- the words name the job: the words of a head, and settings in any order, each of an option that may
+-- stand there, none of an option that stands already
+pub record IsJob (words : List Word) (job : Job) : Type 0 where
+  pub head : Head
+  pub settings : List Setting
+  pub spelled : words ≡ head_words head ++ setting_words settings
+  pub taken : All (λ setting. IsTrue (takes head setting.option)) settings
+  pub once : AllPairs (λ earlier later. earlier.option ≢ later.option) settings
+  pub meant : option_and_then (job_from head) (chosen no_choices settings) ≡ Some job
+
+-- the words are the first of a job's words
+abbrev pub BeginsJob : List Word → Type 0
+BeginsJob front = (back : List Word) × (job : Job) × IsJob (front ++ back) job
+
+-- the least number of words of the front that begins no job; or one more than all, where they begin one
+pub record IsPlace (words : List Word) (place : ℕ) : Type 0 where
+  pub counted : (0 < place) × (place ≤ length words + 1)
+  pub before : (k : ℕ) → k < place → BeginsJob (take k words)
+  pub here : place ≤ length words → ¬ BeginsJob (take place words)
+
+-- words go wrong at one place
+abbrev pub OnePlace : Type 0
+OnePlace = (words : List Word) (place other : ℕ)
+    → IsPlace words place → IsPlace words other → place ≡ other
+
+-- two settings side by side change places, and the words name the same job
+abbrev pub OrderIsFree : Type 0
+OrderIsFree = (head : Head) (front back : List Setting) (first second : Setting) (job : Job)
+    → IsJob (head_words head ++ setting_words (front ++ first ∷ second ∷ back)) job
+    → IsJob (head_words head ++ setting_words (front ++ second ∷ first ∷ back)) job

@@ -1,0 +1,5 @@
+pub mod Jobs
+pub mod Names
+pub mod Options
+pub mod Reading
+pub mod Programs

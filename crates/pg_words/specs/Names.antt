@@ -1,0 +1,72 @@
+-- The words that are names, a row each: engines, programs, formats and options.
+use Rattle.std.specs.Prelude.{ℕ, List, [], ◌∷◌, Bool, true, false, Option, Some, None, if◌then◌else◌, codes}
+use Rattle.std.specs.Str.{bytes_eq}
+use Rattle.pg_readers.specs.declared.line.Format.{Format}
+use Rattle.pg_readers.specs.declared.line.Format.TheVariants as format
+use Rattle.pg_words.specs.declared.names.EngineWord.{EngineWord}
+use Rattle.pg_words.specs.declared.names.EngineWord.TheVariants.{Sync}
+use Rattle.pg_words.specs.declared.names.ProgramWord.{ProgramWord}
+use Rattle.pg_words.specs.declared.names.ProgramWord.TheVariants as program
+use Rattle.pg_words.specs.declared.names.OptionName.{OptionName}
+use Rattle.pg_words.specs.declared.names.OptionName.TheVariants as option
+
+-- a word is its bytes
+abbrev pub Word : Type 0
+Word = List ℕ
+
+-- the engines
+abbrev pub engines : List EngineWord
+engines = Sync ∷ []
+
+abbrev pub engine_word : EngineWord → Word
+engine_word Sync = codes "sync"
+
+-- the programs
+abbrev pub programs : List ProgramWord
+programs = program.Components ∷ program.Colour ∷ program.Sssp ∷ program.Rank ∷ program.Tree ∷ []
+
+abbrev pub program_word : ProgramWord → Word
+program_word program.Components = codes "components"
+program_word program.Colour = codes "colour"
+program_word program.Sssp = codes "sssp"
+program_word program.Rank = codes "rank"
+program_word program.Tree = codes "tree"
+
+-- the formats of a graph text
+abbrev pub formats : List Format
+formats = format.Snap ∷ format.Tsv ∷ format.Adj ∷ []
+
+abbrev pub format_word : Format → Word
+format_word format.Snap = codes "snap"
+format_word format.Tsv = codes "tsv"
+format_word format.Adj = codes "adj"
+
+-- the options
+abbrev pub options : List OptionName
+options = option.Format ∷ option.Rounds ∷ option.Source ∷ option.Tolerance ∷ []
+
+abbrev pub option_word : OptionName → Word
+option_word option.Format = codes "--format"
+option_word option.Rounds = codes "--rounds"
+option_word option.Source = codes "--source"
+option_word option.Tolerance = codes "--tolerance"
+
+-- what the word names among these, or None
+abbrev pub named : {X : Type 0} → (X → Word) → List X → Word → Option X
+named word_of [] word = None
+named word_of (x ∷ xs) word = if bytes_eq word (word_of x) then Some x else named word_of xs word
+
+-- the engines that work in rounds
+abbrev pub has_rounds : EngineWord → Bool
+has_rounds Sync = true
+
+-- the programs whose paths begin at a source
+abbrev pub has_source : ProgramWord → Bool
+has_source program.Sssp = true
+has_source program.Tree = true
+has_source _ = false
+
+-- the programs that tell no change up to a tolerance
+abbrev pub has_tolerance : ProgramWord → Bool
+has_tolerance program.Rank = true
+has_tolerance _ = false

@@ -1,0 +1,118 @@
+//! What the options chose so far.
+ghost use Rattle.std.specs.Prelude.{◌≡◌, ◌^◌, ◌-◌};
+ghost use Rattle.pg_base.specs.Numbers.{number_of};
+
+use crate::head::Head;
+use crate::job::{Engine, Job, ProgramName, RunJob};
+use crate::names::{EngineWord, OptionName, ProgramWord, format_named};
+use pg_base::read_number;
+use pg_readers::Format;
+
+/// The value of each option, where it stands.
+#[derive(Clone, Copy)]
+pub struct Choices {
+    pub format: Option<Format>,
+    pub rounds: Option<u32>,
+    pub source: Option<u32>,
+    pub tolerance: Option<u64>,
+}
+
+impl Choices {
+    ghost use Rattle.pg_words.specs.Options.{no_choices, stands, with_value, engine_of, program_of, job_from};
+
+    /// No option stands.
+    pub fn new() -> Choices
+        ensures { result ≡ no_choices }
+    {
+        Choices {
+            format: None,
+            rounds: None,
+            source: None,
+            tolerance: None,
+        }
+    }
+
+    /// Whether the option stands.
+    pub fn has(&self, option: OptionName) -> bool
+        ensures { result ≡ stands self.now option }
+    {
+        match option {
+            OptionName::Format => self.format.is_some(),
+            OptionName::Rounds => self.rounds.is_some(),
+            OptionName::Source => self.source.is_some(),
+            OptionName::Tolerance => self.tolerance.is_some(),
+        }
+    }
+
+    /// These choices and an option more, unless the word is no value of it.
+    pub fn with_value(self, option: OptionName, word: &str) -> Option<Choices>
+        ensures { result ≡ with_value self option word.now }
+    {
+        match option {
+            OptionName::Format => Some(Choices {
+                format: Some(format_named(word)?),
+                ..self
+            }),
+            OptionName::Rounds => Some(Choices {
+                rounds: Some(read_u32(word)?),
+                ..self
+            }),
+            OptionName::Source => Some(Choices {
+                source: Some(read_u32(word)?),
+                ..self
+            }),
+            OptionName::Tolerance => Some(Choices {
+                tolerance: Some(read_number(word.as_bytes(), u64::MAX)?),
+                ..self
+            }),
+        }
+    }
+
+    /// The engine with its limit.
+    fn engine(&self, word: EngineWord) -> Engine
+        ensures { result ≡ engine_of word self.now }
+    {
+        match word {
+            EngineWord::Sync => Engine::Sync {
+                rounds: self.rounds.unwrap_or(1_000_000),
+            },
+        }
+    }
+
+    /// The program with its number, unless its source is missing.
+    fn program(&self, word: ProgramWord) -> Option<ProgramName>
+        ensures { result ≡ program_of word self.now }
+    {
+        match word {
+            ProgramWord::Components => Some(ProgramName::Components),
+            ProgramWord::Colour => Some(ProgramName::Colour),
+            ProgramWord::Sssp => Some(ProgramName::Sssp {
+                source: self.source?,
+            }),
+            ProgramWord::Rank => Some(ProgramName::Rank {
+                tolerance: self.tolerance.unwrap_or(0),
+            }),
+            ProgramWord::Tree => Some(ProgramName::Tree {
+                source: self.source?,
+            }),
+        }
+    }
+
+    /// The job that these words and choices name, unless a required option is missing.
+    pub fn job(&self, head: Head) -> Option<Job>
+        ensures { result ≡ job_from head self.now }
+    {
+        Some(Job::Run(RunJob {
+            engine: self.engine(head.engine),
+            program: self.program(head.program)?,
+            format: self.format.unwrap_or(Format::Snap),
+        }))
+    }
+}
+
+/// A number below 2^32.
+fn read_u32(word: &str) -> Option<u32>
+    ensures { result ≡ number_of (2 ^ 32 - 1) word.now }
+{
+    Some(read_number(word.as_bytes(), u32::MAX as u64)? as u32)
+}

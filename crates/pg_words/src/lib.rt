@@ -1,0 +1,15 @@
+//! Command words: the job that they name, or the place where they go wrong.
+#![tactic(auto)]
+
+mod choices;
+mod head;
+mod job;
+pub mod laws;
+mod names;
+mod reading;
+
+pub use job::{Engine, Job, ProgramName, RunJob};
+pub use reading::{Usage, read_words};
+
+#[cfg(test)]
+mod tests;

@@ -1,0 +1,119 @@
+//! Words that are names: a row each.
+ghost use Rattle.std.specs.Prelude.{◌≡◌};
+ghost use Rattle.pg_words.specs.Names.{named, engines, engine_word, programs, program_word, formats, format_word, options, option_word, has_rounds, has_source, has_tolerance};
+
+use pg_readers::Format;
+
+/// An engine by its word.
+#[derive(Clone, Copy)]
+pub enum EngineWord {
+    Sync,
+}
+
+impl EngineWord {
+    /// The engine of a word.
+    pub fn named(word: &str) -> Option<EngineWord>
+        ensures { result ≡ named engine_word engines word.now }
+    {
+        if word == "sync" {
+            Some(EngineWord::Sync)
+        } else {
+            None
+        }
+    }
+
+    /// Whether it works in rounds.
+    pub fn has_rounds(self) -> bool
+        ensures { result ≡ has_rounds self }
+    {
+        matches!(self, EngineWord::Sync)
+    }
+}
+
+/// A program by its word.
+#[derive(Clone, Copy)]
+pub enum ProgramWord {
+    Components,
+    Colour,
+    Sssp,
+    Rank,
+    Tree,
+}
+
+impl ProgramWord {
+    /// The program of a word.
+    pub fn named(word: &str) -> Option<ProgramWord>
+        ensures { result ≡ named program_word programs word.now }
+    {
+        if word == "components" {
+            Some(ProgramWord::Components)
+        } else if word == "colour" {
+            Some(ProgramWord::Colour)
+        } else if word == "sssp" {
+            Some(ProgramWord::Sssp)
+        } else if word == "rank" {
+            Some(ProgramWord::Rank)
+        } else if word == "tree" {
+            Some(ProgramWord::Tree)
+        } else {
+            None
+        }
+    }
+
+    /// Whether its paths begin at a source.
+    pub fn has_source(self) -> bool
+        ensures { result ≡ has_source self }
+    {
+        matches!(self, ProgramWord::Sssp | ProgramWord::Tree)
+    }
+
+    /// Whether changes up to a tolerance are not told.
+    pub fn has_tolerance(self) -> bool
+        ensures { result ≡ has_tolerance self }
+    {
+        matches!(self, ProgramWord::Rank)
+    }
+}
+
+/// An option by its word.
+#[derive(Clone, Copy)]
+pub enum OptionName {
+    Format,
+    Rounds,
+    Source,
+    Tolerance,
+}
+
+impl OptionName {
+    /// The option of a word.
+    pub fn named(word: &str) -> Option<OptionName>
+        ensures { result ≡ named option_word options word.now }
+    {
+        if word == "--format" {
+            Some(OptionName::Format)
+        } else if word == "--rounds" {
+            Some(OptionName::Rounds)
+        } else if word == "--source" {
+            Some(OptionName::Source)
+        } else if word == "--tolerance" {
+            Some(OptionName::Tolerance)
+        } else {
+            None
+        }
+    }
+}
+
+/// The format of a word.
+pub fn format_named(word: &str) -> Option<Format>
+    ensures { result ≡ named format_word formats word.now }
+{
+    if word == "snap" {
+        Some(Format::Snap)
+    } else if word == "tsv" {
+        Some(Format::Tsv)
+    } else if word == "adj" {
+        Some(Format::Adj)
+    } else {
+        None
+    }
+}

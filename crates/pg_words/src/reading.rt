@@ -1,0 +1,88 @@
+//! Words read from left to right.
+ghost use Rattle.std.specs.Prelude.{◌≡◌, None, Some, map, IfOk, IfErr, OnErr, string_bytes};
+ghost use Rattle.pg_words.specs.Jobs.{IsJob, IsPlace};
+ghost use Rattle.pg_words.specs.Reading.{next, job_at, job_of};
+
+use crate::choices::Choices;
+use crate::head::Head;
+use crate::job::Job;
+use crate::names::{EngineWord, OptionName, ProgramWord};
+
+/// Words that name no job.
+#[derive(Clone, Copy, Debug, PartialEq, Eq)]
+pub struct Usage {
+    /// Counted from 1: so many words begin no job, and fewer begin one. Where all of them begin
+    /// one, their number and 1.
+    pub place: u32,
+}
+
+/// What stands after words that begin a job.
+#[derive(Clone, Copy)]
+pub enum Reading {
+    Start,
+    Program(EngineWord),
+    Options(Head, Choices),
+    Value(Head, Choices, OptionName),
+}
+
+impl Reading {
+    /// What stands with a word more, unless the word may not follow.
+    pub fn next(self, word: &str) -> Option<Reading>
+        ensures { result ≡ next self word.now }
+    {
+        match self {
+            Reading::Start => Some(Reading::Program(EngineWord::named(word)?)),
+            Reading::Program(engine) => Some(Reading::Options(
+                Head {
+                    engine,
+                    program: ProgramWord::named(word)?,
+                },
+                Choices::new(),
+            )),
+            Reading::Options(head, choices) => {
+                let option = OptionName::named(word)?;
+                if head.takes(option) && !choices.has(option) {
+                    Some(Reading::Value(head, choices, option))
+                } else {
+                    None
+                }
+            }
+            Reading::Value(head, choices, option) => Some(Reading::Options(
+                head,
+                choices.with_value(option, word)?,
+            )),
+        }
+    }
+
+    /// The job that stands, unless words are missing.
+    pub fn job(self) -> Option<Job>
+        ensures { result ≡ job_at self }
+    {
+        match self {
+            Reading::Options(head, choices) => choices.job(head),
+            _ => None,
+        }
+    }
+}
+
+/// The job that the words name, or the place where they go wrong.
+pub fn read_words(words: &[String]) -> Result<Job, Usage>
+    ensures ok { IfOk result (λ job. job_of (map string_bytes words.now) ≡ Some job) }
+    ensures grammar { IfOk result (λ job. IsJob (map string_bytes words.now) job) }
+    ensures err { OnErr result (job_of (map string_bytes words.now) ≡ None) }
+    ensures place { IfErr result (λ usage. IsPlace (map string_bytes words.now) usage.place) }
+{
+    let mut standing = Reading::Start;
+    let mut place = 1;
+    for word in words {
+        match standing.next(word.as_str()) {
+            Some(more) => standing = more,
+            None => return Err(Usage { place }),
+        }
+        place += 1;
+    }
+    match standing.job() {
+        Some(job) => Ok(job),
+        None => Err(Usage { place }),
+    }
+}
