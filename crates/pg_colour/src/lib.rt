@@ -3,6 +3,7 @@
 
 mod colour;
 mod colours;
+pub mod laws;
 
 pub use colour::Colour;
 pub use colours::Colours;

@@ -1,3 +1,4 @@
 pub mod Shares
 pub mod PageRank
 pub mod PageRankLaws
+pub mod RankEquation

@@ -1,0 +1,12 @@
+pub mod Joining
+pub mod Hearing
+pub mod Labelling
+pub mod Sums
+pub mod Settling
+pub mod Walking
+pub mod Bounding
+pub mod Reaching
+pub mod Agreeing
+pub mod Offers
+pub mod Growing
+pub mod Branching
