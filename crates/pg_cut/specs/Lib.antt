@@ -1,0 +1,5 @@
+pub mod WorkerSet
+pub mod Cut
+pub mod Mix
+pub mod Rows
+pub mod ByWorker

@@ -1,0 +1,19 @@
+//! Which worker holds each edge, and so which workers hold each vertex.
+#![tactic(auto)]
+
+mod by_worker;
+mod cut;
+mod keys;
+mod mix;
+mod rows;
+mod span;
+mod tally;
+#[cfg(test)]
+mod tests;
+mod worker_set;
+
+pub use cut::Cut;
+pub use keys::Keys;
+pub use mix::random;
+pub use rows::Rows;
+pub use worker_set::{has_worker, lowest, size, with_worker, without, worker_at};

@@ -1,0 +1,134 @@
+//! The path of four vertices on three workers, a lone vertex, the mix, and rows of three pairs.
+ghost use Rattle.std.specs.Prelude.{IfOk};
+ghost use Rattle.pg_cut.specs.Cut.{IsCutOf};
+
+use crate::{Cut, Rows, random};
+use pg_base::Limits;
+use pg_graph::{Graph, GraphBuilder};
+use pg_law::Steps;
+use std::alloc::Global;
+use std::marker::Brand;
+use std::process::Abort;
+use std::test::Fail;
+
+/// The edges from 1 to 2, from 2 to 3 and from 3 to 4.
+fn path(alloc: Global) -> Result<Graph, Fail> {
+    let mut builder = GraphBuilder::new(alloc, Limits::standard())?;
+    builder.edge(1, 2, 1)?;
+    builder.edge(2, 3, 1)?;
+    builder.edge(3, 4, 1)?;
+    Ok(builder.finish()?)
+}
+
+/// A cut whose conditions are tested.
+fn cut_by(
+    rt: &impl Abort,
+    alloc: Global,
+    graph: &Graph,
+    workers: u8,
+    places: &[u8],
+) -> Result<Cut, Fail>
+    ensures { IfOk result (λ cut. IsCutOf graph.now cut) }
+{
+    assert!(rt; workers >= 1);
+    assert!(rt; workers <= 64);
+    assert!(rt; places.len() == graph.edges().len());
+    let mut place = Vec::with_capacity(alloc, places.len())?;
+    for worker in places {
+        assert!(rt; *worker < workers);
+        place.push(*worker)?;
+    }
+    Ok(Cut::of(alloc, graph, workers, place)?)
+}
+
+#[test]
+fn spans_masters_and_replicas_follow_from_the_places(rt: HostRuntime) -> Result<(), Fail> {
+    let graph = path(rt.alloc())?;
+    let cut = cut_by(&rt, rt.alloc(), &graph, 3, &[0, 1, 2])?;
+    assert_eq!(rt; (cut.workers(), cut.replicas()), (3, 6));
+    for (v, span, master) in [(0, 0b001, 0), (1, 0b011, 1), (2, 0b110, 1), (3, 0b100, 2)] {
+        assert!(rt; v < graph.vertices());
+        assert_eq!(rt; cut.span(v), span, "vertex {v}");
+        assert_eq!(rt; cut.master(v), master, "vertex {v}");
+    }
+    Ok(())
+}
+
+#[test]
+fn each_worker_has_its_edges_vertices_and_ends(rt: HostRuntime) -> Result<(), Fail> {
+    let graph = path(rt.alloc())?;
+    let cut = cut_by(&rt, rt.alloc(), &graph, 3, &[1, 0, 1])?;
+    let rows: [(u8, &[u32], &[u32], &[(u32, u32)]); 3] = [
+        (0, &[1], &[1, 2], &[(1, 0), (2, 0)]),
+        (1, &[0, 2], &[0, 1, 2, 3], &[(0, 0), (1, 0), (2, 1), (3, 1)]),
+        (2, &[], &[], &[]),
+    ];
+    for (worker, edges, vertices, ends) in rows {
+        assert!(rt; worker < cut.workers());
+        assert_eq!(rt; cut.edges_on(worker), edges, "worker {worker}");
+        assert_eq!(rt; cut.vertices_on(worker), vertices, "worker {worker}");
+        assert_eq!(rt; cut.ends_on(worker), ends, "worker {worker}");
+        assert_eq!(rt; cut.load(worker) as usize, edges.len(), "worker {worker}");
+        assert_eq!(rt;
+            cut.held(worker) as usize,
+            vertices.len(),
+            "worker {worker}"
+        );
+    }
+    Ok(())
+}
+
+#[test]
+fn a_lone_vertex_is_on_the_worker_of_its_number(rt: HostRuntime) -> Result<(), Fail> {
+    let mut builder = GraphBuilder::new(rt.alloc(), Limits::standard())?;
+    builder.vertex(7)?;
+    builder.vertex(8)?;
+    builder.vertex(9)?;
+    let graph = builder.finish()?;
+    let cut = cut_by(&rt, rt.alloc(), &graph, 2, &[])?;
+    assert_eq!(rt; cut.replicas(), 3);
+    for (v, span, master) in [(0, 0b01, 0), (1, 0b10, 1), (2, 0b01, 0)] {
+        assert!(rt; v < graph.vertices());
+        assert_eq!(rt; (cut.span(v), cut.master(v)), (span, master), "vertex {v}");
+    }
+    Ok(())
+}
+
+// The places were computed by another program from the formula of the mix.
+#[test]
+fn ids_and_seed_are_mixed(rt: HostRuntime) -> Result<(), Fail> {
+    let graph = path(rt.alloc())?;
+    for (workers, seed, places) in [
+        (5, 9, [4, 1, 2]),
+        (64, 77, [41, 31, 32]),
+        (3, 4_294_967_298, [0, 0, 2]),
+    ] {
+        assert!(rt; workers >= 1);
+        assert!(rt; workers <= 64);
+        let cut = random(rt.alloc(), &graph, workers, seed)?;
+        for (e, place) in places.iter().enumerate() {
+            assert!(rt; e < graph.edges().len());
+            assert_eq!(rt; cut.place(e as u32), *place, "edge {e} of seed {seed}");
+        }
+    }
+    Ok(())
+}
+
+#[test]
+fn rows_are_found_by_halving(rt: HostRuntime) -> Result<(), Fail> {
+    let rows = Rows::of(rt.alloc(), &[(2, 0), (2, 3), (5, 1)])?;
+    assert_eq!(rt; rows.keys(), 2);
+    for (key, place) in [(5, Some(1)), (4, None), (2, Some(0)), (0, None), (9, None)] {
+        let mut steps = Steps::<Brand>::new();
+        assert_eq!(rt; rows.find(key, &mut steps), place, "key {key}");
+    }
+    assert_eq!(rt; rows.row(0), [0, 3].as_slice());
+    assert_eq!(rt; rows.row(1), [1].as_slice());
+    assert_eq!(rt; rows.at(5), [1].as_slice());
+    assert!(rt; rows.at(4).is_empty());
+    let mut steps = Steps::<Brand>::new();
+    assert_eq!(rt; rows.key(1, &mut steps), 5);
+    let none = Rows::of(rt.alloc(), &[])?;
+    assert_eq!(rt; (none.keys(), none.find(5, &mut steps)), (0, None));
+    Ok(())
+}

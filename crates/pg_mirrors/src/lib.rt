@@ -1,0 +1,10 @@
+//! The replicas of vertices on one worker.
+#![tactic(auto)]
+
+mod laws;
+mod table;
+#[cfg(test)]
+mod tests;
+
+pub use laws::replicas_are_in_spans;
+pub use table::MirrorTable;
