@@ -2,7 +2,8 @@
 ghost use Rattle.std.specs.Prelude.{◌≡◌, ◌<◌, length, ◌+◌, IfOk};
 ghost use Rattle.pg_law.specs.Rounds.{end_of};
 ghost use Rattle.pg_main.specs.Counters.{ArePresent, FirstTakes};
-ghost use Rattle.pg_main.specs.Report.{run_of, run_with};
+ghost use Rattle.pg_main.specs.Jobs.{run_of};
+ghost use Rattle.pg_main.specs.Report.{run_with};
 
 use pg_graph::Graph;
 use pg_law::{State, Steps, VertexProgram};

@@ -6,27 +6,34 @@ ghost use Rattle.pg_input.specs.Events.{IsEventOf};
 ghost use Rattle.pg_input.specs.Reading.{first_event};
 ghost use Rattle.pg_input.specs.declared.error.InputError.{InputError as Unread};
 ghost use Rattle.pg_input.specs.declared.error.InputError.TheVariants.{ReadFault};
+ghost use Rattle.pg_law.specs.declared.values.End.TheVariants.{Quiescent};
 ghost use Rattle.pg_main.specs.Counters.{ArePresent};
-ghost use Rattle.pg_main.specs.Report.{IsReported, IsReportedInPart};
+ghost use Rattle.pg_main.specs.Jobs.{IsReported, IsReportedInPart, IsMeant, IsAbsent, rounds_limit};
 
-use crate::compute::compute;
+use crate::laws::what_quiescence_means;
 use crate::refusal::Refusal;
-use crate::report::write_report;
+use crate::rounds::report_named;
+use crate::source::find_source;
 use pg_base::{Limits, Sink, Source};
 use pg_input::read_graph;
 use pg_law::{End, Steps};
-use pg_paths::Components;
-use pg_readers::Format;
+use pg_words::{Engine, RunJob};
 use std::alloc::Global;
 use std::sync::ledger::Ledger;
 
 /// How many rounds are made at most.
-const ROUNDS: u32 = 1_000_000;
+fn rounds_of(engine: Engine) -> u32
+    ensures { result ≡ rounds_limit engine }
+{
+    match engine {
+        Engine::Sync { rounds } => rounds,
+    }
+}
 
-/// Reads a text, runs rounds of components on its graph, and writes their report.
-pub fn sync_components<S: Source, K: Sink, L: Ledger>(
+/// Reads a text, runs rounds of a program on its graph, and writes their report.
+pub fn run_job<S: Source, K: Sink, L: Ledger>(
     alloc: Global,
-    format: Format,
+    job: RunJob,
     limits: Limits,
     input: &mut S,
     out: &mut K,
@@ -36,25 +43,40 @@ pub fn sync_components<S: Source, K: Sink, L: Ledger>(
     requires some { 0 < length steps.old }
     requires present { ArePresent steps.old }
     ensures reported { IfOk result (λ end. IfSome (S.left input.old)
-        (IsReported limits (K.written out.old) (K.written out.new) steps.old steps.new end format)) }
+        (IsReported limits (K.written out.old) (K.written out.new) steps.old steps.new end job)) }
+    ensures meant { IfOk result (λ end. end ≡ Quiescent → IfSome (S.left input.old)
+        (IsMeant limits (K.written out.old) (K.written out.new) job)) }
     ensures finished { OnOk result (K.finished out.new ≡ true) }
     ensures read { OnOk result (IfSome (S.left input.old) (λ _. S.left input.new ≡ Some [])) }
     ensures event { (error : Unread) → IsErrOf result (Refusal.Input error) →
-        IfSome (S.left input.old) (λ text. IsEventOf (first_event format limits text) error) }
+        IfSome (S.left input.old) (λ text. IsEventOf (first_event job.format limits text) error) }
+    ensures absent { (id : _) → IsErrOf result (Refusal.NoVertex id) →
+        IfSome (S.left input.old) (IsAbsent limits id job) }
     ensures read_fault { IsErrOf result (Refusal.Input ReadFault) →
         HasRisen (S.faults input.old) (S.faults input.new) }
     ensures write_fault { IsErrOf result Refusal.WriteFault →
         HasRisen (K.faults out.old) (K.faults out.new) }
-    ensures kept { (error : Unread) → IsErrOf result (Refusal.Input error) →
+    ensures unread { (error : Unread) → IsErrOf result (Refusal.Input error) →
+        K.written out.new ≡ K.written out.old }
+    ensures unsent { (id : _) → IsErrOf result (Refusal.NoVertex id) →
         K.written out.new ≡ K.written out.old }
     ensures front { IsErrOf result Refusal.WriteFault → IfSome (S.left input.old)
-        (IsReportedInPart limits (K.written out.old) (K.written out.new) format) }
+        (IsReportedInPart limits (K.written out.old) (K.written out.new) job) }
     ensures memory { IsErrOf result Refusal.Memory → K.written out.new ≡ K.written out.old }
     ensures present { ArePresent steps.new }
 {
-    let graph = read_graph(alloc, format, limits, input)?;
-    let run = compute(alloc, &Components::new(), &graph, ROUNDS, steps)?;
-    write_report(out, b"components", &graph, &run.state, run.end)?;
+    what_quiescence_means();
+    let graph = read_graph(alloc, job.format, limits, input)?;
+    let _ = graph.vertices();
+    find_source(job.program, &graph)?;
+    let end = report_named(
+        alloc,
+        job.program,
+        rounds_of(job.engine),
+        &graph,
+        out,
+        steps,
+    )?;
     out.finish()?;
-    Ok(run.end.end)
+    Ok(end)
 }

@@ -9,6 +9,8 @@ use std::alloc::AllocError;
 pub enum Refusal {
     /// The text wasn't read.
     Input(InputError),
+    /// The graph has no vertex of this id, which the job names.
+    NoVertex { id: u32 },
     /// The output failed.
     WriteFault,
     Memory,

@@ -1,0 +1,85 @@
+use Rattle.std.proofs.Common.{◌≡◌, sym, ◌∙◌, ap, subst, ℕ, List}
+use Rattle.std.specs.Prelude.{Option, Some, None, Err, IfSome}
+use Rattle.std.proofs.lemmas.Result.{err_from_is_err_and}
+use Rattle.std.specs.Io.KnownBytes.{append_known}
+use Rattle.pg_base.specs.Writing.{SendsFront}
+use Rattle.pg_input.specs.Reading.{IsGraphOfText, first_event}
+use Rattle.pg_main.specs.declared.refusal.Refusal.{Refusal}
+use Rattle.pg_main.specs.Jobs.{IsReported, IsReportedInPart, IsMeant, IsAbsent}
+use Rattle.pg_main.proofs.Reports.{if_both}
+use Rattle.pg_main.proofs.Sending.{whole_front}
+use Rattle.pg_main.proofs.job.run_job.Goals as goal
+
+pub returns-clause-reported : goal.returns-clause-reported
+returns-clause-reported g c =
+    let graph = c.in_ok-graph.graph in
+    let read = c.in_ok-graph.ensures in
+    let job = c.args.job in
+    let limits = c.args.limits in
+    let before = g.K.Sink.written c.args.out.now in
+    let after = g.K.Sink.written c.finish.new.self in
+    if_both {P = λ text. first_event job.format limits text ≡ None} {Q = λ text. IsGraphOfText job.format limits text graph}
+    {R = λ text. IsReported limits before after c.args.steps.now c.report_named.new.steps c.in_ok-end.end job text}
+    (g.S.Source.left c.args.input.now) (λ text accepted graph_of. record {
+      graph = graph;
+      accepted = accepted;
+      graph_of = graph_of;
+      source = c.in_ok-find_source.ensures.there;
+      ended = (rw c.rounds_of.ensures at c.in_ok-end.ensures.end);
+      appended = c.finish.ensures.kept ∙ (rw c.rounds_of.ensures at c.in_ok-end.ensures.whole);
+      counted = (rw c.rounds_of.ensures at c.in_ok-end.ensures.counted);
+    }) read.accepted read.graph
+
+pub returns-clause-meant : goal.returns-clause-meant
+returns-clause-meant g c =
+    let graph = c.in_ok-graph.graph in
+    let read = c.in_ok-graph.ensures in
+    let job = c.args.job in
+    let limits = c.args.limits in
+    let before = g.K.Sink.written c.args.out.now in
+    let after = g.K.Sink.written c.finish.new.self in
+    λ quiescent. if_both {P = λ text. first_event job.format limits text ≡ None} {Q = λ text. IsGraphOfText job.format limits text graph}
+    {R = λ text. IsMeant limits before after job text}
+    (g.S.Source.left c.args.input.now) (λ text accepted graph_of. record {
+      graph = graph;
+      graph_of = graph_of;
+      appended = c.finish.ensures.kept ∙ (rw c.rounds_of.ensures at c.in_ok-end.ensures.whole);
+      meaning = c.what_quiescence_means.ensures job graph c.vertices.ensures.graph ((rw c.rounds_of.ensures at c.in_ok-end.ensures.end) ∙ quiescent);
+    }) read.accepted read.graph
+
+pub returns-in_err-end-clause-front : goal.returns-in_err-end-clause-front
+returns-in_err-end-clause-front g c =
+    let p = err_from_is_err_and c.from_residual-in_err-end.result c.from_residual-in_err-end.ensures.1 in
+    let graph = c.in_ok-graph.graph in
+    let read = c.in_ok-graph.ensures in
+    let job = c.args.job in
+    let limits = c.args.limits in
+    let before = g.K.Sink.written c.args.out.now in
+    let after = g.K.Sink.written c.report_named.new.out in
+    rw p.1 (λ is. if_both {P = λ text. first_event job.format limits text ≡ None} {Q = λ text. IsGraphOfText job.format limits text graph}
+    {R = λ text. IsReportedInPart limits before after job text}
+    (g.S.Source.left c.args.input.now) (λ text accepted graph_of. record {
+      graph = graph;
+      accepted = accepted;
+      graph_of = graph_of;
+      source = c.in_ok-find_source.ensures.there;
+      front = (rw c.rounds_of.ensures at c.in_err-end.ensures.front) (ap (λ (r : Refusal). Err r) (sym p.2) ∙ is);
+    }) read.accepted read.graph)
+
+pub returns-in_err-finish-clause-front : goal.returns-in_err-finish-clause-front
+returns-in_err-finish-clause-front g c =
+    let graph = c.in_ok-graph.graph in
+    let read = c.in_ok-graph.ensures in
+    let job = c.args.job in
+    let limits = c.args.limits in
+    let before = g.K.Sink.written c.args.out.now in
+    let after = g.K.Sink.written c.finish.new.self in
+    λ is. if_both {P = λ text. first_event job.format limits text ≡ None} {Q = λ text. IsGraphOfText job.format limits text graph}
+    {R = λ text. IsReportedInPart limits before after job text}
+    (g.S.Source.left c.args.input.now) (λ text accepted graph_of. record {
+      graph = graph;
+      accepted = accepted;
+      graph_of = graph_of;
+      source = c.in_ok-find_source.ensures.there;
+      front = whole_front (c.finish.ensures.kept ∙ (rw c.rounds_of.ensures at c.in_ok-end.ensures.whole));
+    }) read.accepted read.graph
