@@ -33,6 +33,17 @@ found_at ids id (Some place) is =
 pub stored_at : (ids : List ℕ) (id place stored : ℕ) → place < length ids → slice_get ids place ≡ Some stored → nat_eq id stored ≡ true → StandsAt ids id place
 stored_at ids id place stored within is same = record { within = within; found = get_or_from_slice_get ids place stored 0 is ∙ sym (eqb-true id stored same) }
 
+-- an id that stands somewhere is there, so nothing is added
+pub already_with : (ids : List ℕ) (id place : ℕ) → StandsAt ids id place → with_id ids id ≡ ids
+already_with ids id place at = rw (rw at.found at (list_any-from_Contains nat_eq_equiv (get_or ids place 0) ids (Contains-get_or ids place 0 at.within))) refl
+
+pub both_already : (ids : List ℕ) (src dst src_place dst_place : ℕ) → StandsAt ids src src_place → StandsAt ids dst dst_place → ids_with ids src dst ≡ ids
+both_already ids src dst src_place dst_place src_at dst_at = rw (already_with ids src src_place src_at) (already_with ids dst dst_place dst_at)
+
+-- the room in what is seen is that in what is kept
+pub room_for : (b : Building) (limits : Limits) (ids : List ℕ) (edges : List Edge) (loops : ℕ) → building limits ids (map (named ids) edges) loops ≡ b → length b.edges < b.limits.edges → length edges < limits.edges
+room_for b limits ids edges loops is below = omega (arith, ap (λ (x : Building). length x.edges) is, ap (λ (x : Building). x.limits.edges) is, length-map edges (named ids), below)
+
 -- the ids stay at their places
 pub longer_with : (ids : List ℕ) (id : ℕ) → length ids ≤ length (with_id ids id)
 longer_with ids id = elim (cases_Bool (list_any (nat_eq id) ids)) [
@@ -119,13 +130,10 @@ module _ (limits : Limits) (ids keys : List ℕ) (edges room items : List Edge) 
   pub kept_then : src < 2 ^ 32 → dst < 2 ^ 32 → edge.weight < 2 ^ 32 → length (ids_with ids src dst) ≤ limits.vertices → length edges < limits.edges → IsKept limits keys items loops
   kept_then s d w fits below = rw (keys_are, items_are, room_is) (kept_more limits ids edges loops src dst edge kept s d w apart (rw keys_are at src_at) (rw keys_are at dst_at) fits below)
 
-  pub viewed_then : building limits keys (map (named keys) items) loops ≡ with_edge (building limits ids (map (named ids) edges) loops) src dst edge.weight
+  pub viewed_then : building limits keys (map (named keys) items) loops ≡ building limits (ids_with ids src dst) (map (named ids) edges ++ named_edge src dst edge.weight ∷ []) loops
   viewed_then =
-      let before = building limits ids (map (named ids) edges) loops in
-      let after = building limits (ids_with ids src dst) (map (named ids) edges ++ named_edge src dst edge.weight ∷ []) loops in
       ap (λ ks. building limits ks (map (named ks) items) loops) keys_are ∙ ap (λ es. building limits (ids_with ids src dst) (map (named (ids_with ids src dst)) es) loops) (items_are ∙ ap (λ es. es ++ edge ∷ []) room_is)
       ∙ ap (λ es. building limits (ids_with ids src dst) es loops) (names_more ids src dst edges kept.placed edge (rw keys_are at src_at) (rw keys_are at dst_at))
-      ∙ sym (ap (λ b. cond b (building limits (with_id ids src) (map (named ids) edges) (loops + 1)) after) (ne_eqb src dst apart))
 
 -- each id is found among the sorted ids
 pub sorted_has : (ids sorted : List ℕ) (place : ℕ) → IsPermutation ids sorted → place < length ids → list_any (nat_eq (get_or ids place 0)) sorted ≡ true

@@ -1,5 +1,5 @@
 use Rattle.pg_graph.proofs.Placed.{stored_at, stands_still}
-use Rattle.pg_graph.proofs.builder.places.Goals as goal
+use Rattle.pg_graph.proofs.builder.add_both.Goals as goal
 
 pub returns-clause-src : goal.returns-clause-src
 returns-clause-src c = rw c.in_ok-dst.ensures.keys
