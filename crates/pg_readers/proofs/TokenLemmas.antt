@@ -1,6 +1,8 @@
 -- The token at the front of a line, and its number digit by digit.
-use Rattle.std.proofs.Common.{◌≡◌, ℕ, ◌+◌, ◌-◌, ◌*◌, ◌^◌, ◌<◌, ◌≤◌, List, [], ◌∷◌, length, map, get_or, Bool, true, false, cond, not, eqb, Option, Some, None, refl, sym, ap, ◌∙◌, arith}
+use Rattle.std.proofs.Common.{◌≡◌, ℕ, ◌+◌, ◌-◌, ◌*◌, ◌^◌, ◌<◌, ◌≤◌, List, [], ◌∷◌, length, map, get_or, take, drop, suc, add-one, Bool, true, false, cond, not, eqb, Option, Some, None, refl, sym, ap, ◌∙◌, arith}
 use Rattle.std.specs.Prelude.{◌&&◌, nat_le}
+use Rattle.std.proofs.Math.Seq.{drop-cons}
+use Rattle.std.proofs.lemmas.List.{take_all, length-drop}
 use Rattle.std.proofs.lemmas.Bool.Decides.{nat_tests}
 use Rattle.pg_base.specs.Numbers.{is_digit, with_digit, number_of}
 use Rattle.pg_base.proofs.Digits.{read_from, read_all}
@@ -121,3 +123,18 @@ module _ (bytes : List ℕ) (begins : begins_token bytes ≡ true) (n : ℕ) (re
 
   pub no_number : (later : List ℕ) → 1 ≤ length rest → with_digit (2 ^ 32 - 1) n (get_or rest 0 0) ≡ None → is_blank (get_or rest 0 0) ≡ false → later ≡ behind_token rest → IsFirst bytes None later
   no_number later some no_digit solid later_is = first_is bytes None later begins (sym (none_here n rest some no_digit solid) ∙ number) (later_is ∙ behind)
+
+-- the bytes from a place on, and the first of them
+pub from_place : (bytes : List ℕ) (at : ℕ) → take (length bytes - at) (drop at bytes) ≡ drop at bytes
+from_place bytes at = take_all (length bytes - at) (drop at bytes) (omega (arith, length-drop at bytes))
+
+pub byte_at : (bytes : List ℕ) (at : ℕ) → at < length bytes → get_or (drop at bytes) 0 0 ≡ get_or bytes at 0
+byte_at bytes at within = rw (drop-cons bytes at 0 within) refl
+
+-- one digit more
+module _ (bytes : List ℕ) (at n m : ℕ) (within : at < length bytes) (some : with_digit (2 ^ 32 - 1) n (get_or bytes at 0) ≡ Some m) where
+  pub number_on : number_from n (drop at bytes) ≡ number_from m (drop (at + 1) bytes)
+  number_on = ap (number_from n) (drop-cons bytes at 0 within) ∙ digit_more n m (get_or bytes at 0) (drop (suc at) bytes) some ∙ ap (λ k. number_from m (drop k bytes)) (sym (add-one at))
+
+  pub behind_on : behind_token (drop at bytes) ≡ behind_token (drop (at + 1) bytes)
+  behind_on = ap behind_token (drop-cons bytes at 0 within) ∙ behind_more (get_or bytes at 0) (drop (suc at) bytes) (with_digit_solid n m (get_or bytes at 0) some) ∙ ap (λ k. behind_token (drop k bytes)) (sym (add-one at))

@@ -17,6 +17,7 @@ fn with_digit(number: u32, byte: u8) -> Option<u32>
     ensures { result ≡ with_digit (2 ^ 32 - 1) number byte }
 {
     match byte {
+        b'0'..=b'9' if number < 429_496_729 => Some(number * 10 + u32::from(byte - b'0')),
         b'0'..=b'9' => number.checked_mul(10)?.checked_add(u32::from(byte - b'0')),
         _ => None,
     }
@@ -60,18 +61,20 @@ pub fn number_token(bytes: &[u8]) -> (Option<u32>, &[u8])
     ensures shorter { length result.1.now < length bytes.now }
 {
     let mut number = 0;
-    let mut rest = bytes;
-    while let [byte, behind @ ..] = rest {
-        let Some(more) = with_digit(number, *byte) else {
-            if is_blank(*byte) {
+    let mut at = 0;
+    while at < bytes.len() {
+        let byte = bytes[at];
+        let Some(more) = with_digit(number, byte) else {
+            let rest = &bytes[at..];
+            if is_blank(byte) {
                 return (Some(number), rest);
             }
             return (None, behind_token(rest));
         };
         number = more;
-        rest = behind;
+        at += 1;
     }
-    (Some(number), rest)
+    (Some(number), &bytes[at..])
 }
 
 /// The number of the next token, where it is one, and the bytes behind the token.
