@@ -44,7 +44,7 @@ pub fn take_turn<P: VertexProgram, L: Ledger>(
         program,
         graph,
         state.values.as_slice(),
-        state.edges.as_slice(),
+        &state.edges,
         u,
         steps,
     )?;

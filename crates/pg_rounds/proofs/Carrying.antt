@@ -16,7 +16,8 @@ use Rattle.pg_law.specs.declared.values.Scattered.{Scattered}
 use Rattle.pg_law.specs.Program.{Program}
 use Rattle.pg_law.specs.Laws.{IsLawful}
 use Rattle.pg_law.specs.Round.{became_at, AreApplied, IsBecome, scatter_by, received, signal_in, word_after, join, from_source, word_between, from_target, final_word, signal_to, with_signals}
-use Rattle.pg_rounds.specs.Carries.{carry_at, carry_in, outcome_with, outcomes_with, IsCarried, AreCarries, scatter_with}
+use Rattle.pg_law.specs.Carries.{carry_at, carry_in, IsCarried, AreCarries, scatter_with}
+use Rattle.pg_rounds.specs.Carries.{outcome_with, outcomes_with}
 use Rattle.pg_rounds.specs.Visits.{executes_in, visitor_of}
 
 -- what was carried is what is carried

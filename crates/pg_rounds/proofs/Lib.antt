@@ -1,4 +1,3 @@
-pub mod Lists
 pub mod Carrying
 pub mod Gathering
 pub mod Visiting

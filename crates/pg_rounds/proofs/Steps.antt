@@ -17,8 +17,9 @@ use Rattle.pg_law.specs.Laws.{IsLawful, IsOptional}
 use Rattle.pg_law.specs.Configuration.{Configuration, AreData, AreWords, AreMessages, message_in, is_signalled, signalled}
 use Rattle.pg_law.specs.Round.{AreApplied, outcome, outcomes, apply_to, signal_in, signal_to, from_source, from_target, received, join, final_word, with_signals}
 use Rattle.pg_law.proofs.Fitting.{join_own, signal_to_own}
-use Rattle.pg_rounds.specs.declared.draft.Change.{Change}
-use Rattle.pg_rounds.specs.Visits.{executes_in, written, with_change, another_word, AreInside, AreWritten, IsVisited}
+use Rattle.pg_law.specs.declared.edge_words.Change.{Change}
+use Rattle.pg_law.specs.EdgeWords.{written}
+use Rattle.pg_rounds.specs.Visits.{executes_in, with_change, another_word, AreInside, AreWritten, IsVisited}
 use Rattle.pg_rounds.proofs.Visiting.{length-written}
 
 -- a vertex becomes something where it has a message

@@ -10,9 +10,10 @@ use Rattle.pg_law.specs.declared.values.Applied.{Applied}
 use Rattle.pg_law.specs.Program.{Program}
 use Rattle.pg_law.specs.Configuration.{message_in}
 use Rattle.pg_law.specs.Round.{final_word, with_signals}
-use Rattle.pg_rounds.specs.declared.draft.Change.{Change}
-use Rattle.pg_rounds.specs.Visits.{written, IsVisited}
-use Rattle.pg_rounds.proofs.Lists.{stands_below}
+use Rattle.pg_law.specs.declared.edge_words.Change.{Change}
+use Rattle.pg_law.specs.EdgeWords.{written}
+use Rattle.pg_rounds.specs.Visits.{IsVisited}
+use Rattle.pg_law.proofs.Lists.{stands_below}
 use Rattle.pg_rounds.proofs.Visiting.{length-written}
 
 module _ {Acc Carry : Type 0} (p : Program Acc Carry) (g : Multigraph) (values : List Datum) (words : List ℕ) (became : List (Option (Applied Carry))) (before after : List (Option ℕ)) (changes : List Change)

@@ -18,9 +18,10 @@ use Rattle.pg_law.specs.Configuration.{AreData, AreWords, AreMessages, message_i
 use Rattle.pg_law.specs.Round.{became_at, AreApplied, received, join, signal_to, final_word, with_signals}
 use Rattle.pg_law.proofs.Fitting.{signal_to_own}
 use Rattle.pg_law.proofs.Parts.{signals_in_turn}
-use Rattle.pg_rounds.specs.declared.draft.Change.{Change}
-use Rattle.pg_rounds.specs.Visits.{executes_in, visitor, visits_of, visits, written, IsVisited}
-use Rattle.pg_rounds.proofs.Lists.{every, fold-flat_map, filter-flat_map, flat_map_agree, list_any-flat_map, list_any_agree, fold_skips, fold_idle, filter_regroup, stands_in_filter, stands_below}
+use Rattle.pg_law.specs.declared.edge_words.Change.{Change}
+use Rattle.pg_law.specs.EdgeWords.{written}
+use Rattle.pg_rounds.specs.Visits.{executes_in, visitor, visits_of, visits, IsVisited}
+use Rattle.pg_law.proofs.Lists.{every, fold-flat_map, filter-flat_map, flat_map_agree, list_any-flat_map, list_any_agree, fold_skips, fold_idle, filter_regroup, stands_in_filter, stands_below}
 
 nothing_in : {A : Type 0} (o : Option A) → is_some o ≡ false → o ≡ None
 nothing_in None e = refl

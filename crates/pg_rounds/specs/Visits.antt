@@ -1,5 +1,5 @@
 -- In what order a round visits its edges, and what it notes of their words.
-use Rattle.std.specs.Prelude.{◌≡◌, ℕ, ◌<◌, ◌==◌, Bool, Option, None, is_some, cond, List, [], ◌∷◌, ◌++◌, length, slice_index, slice_index_or, set, filter, fold, All}
+use Rattle.std.specs.Prelude.{◌≡◌, ℕ, ◌<◌, ◌==◌, Bool, Option, None, is_some, cond, List, [], ◌∷◌, ◌++◌, length, slice_index, slice_index_or, filter, fold, All}
 use Rattle.std.specs.List.{list_any, flat_map}
 use Rattle.pg_graph.specs.declared.edge.Edge.{Edge}
 use Rattle.pg_graph.specs.Multigraph.{Multigraph, edges_at, edge_at, is_at}
@@ -9,7 +9,8 @@ use Rattle.pg_law.specs.Program.{Program}
 use Rattle.pg_law.specs.Monoid.{part}
 use Rattle.pg_law.specs.Configuration.{Configuration, message_in}
 use Rattle.pg_law.specs.Round.{final_word, with_signals}
-use Rattle.pg_rounds.specs.declared.draft.Change.{Change}
+use Rattle.pg_law.specs.declared.edge_words.Change.{Change}
+use Rattle.pg_law.specs.EdgeWords.{written}
 
 -- whether a vertex executes, by what it became or by its carry
 abbrev pub executes_in : {X : Type 0} → List (Option X) → ℕ → Bool
@@ -29,10 +30,6 @@ visits_of g became v = part (visitor g became) v (edges_at g v)
 -- the edges that these vertices visit, one vertex after another
 abbrev pub visits : {Carry : Type 0} → Multigraph → List (Option (Applied Carry)) → List ℕ → List ℕ
 visits g became vertices = flat_map (visits_of g became) vertices
-
--- the words with these changes, in order
-abbrev pub written : List ℕ → List Change → List ℕ
-written words changes = fold (λ ws change. set ws change.edge change.word) words changes
 
 abbrev pub another_word : ℕ → ℕ → Change
 another_word edge word = record { edge = edge; word = word }

@@ -1,16 +1,9 @@
 //! What a round writes before its end.
-ghost use Rattle.std.specs.Prelude.{◌≡◌, [], ◌∷◌, ◌++◌, ◌<◌, is_some, length, All, IfOk, OnOk, if◌then◌else◌};
-ghost use Rattle.pg_rounds.specs.Visits.{with_change, written};
+ghost use Rattle.std.specs.Prelude.{◌≡◌, [], ◌∷◌, ◌++◌, is_some, IfOk, OnOk, if◌then◌else◌};
+ghost use Rattle.pg_rounds.specs.Visits.{with_change};
 
-use pg_law::Datum;
+use pg_law::{Change, Datum};
 use std::alloc::{AllocError, Global};
-
-/// An edge, by its number, gets another word.
-#[derive(Clone, Copy, Debug)]
-pub struct Change {
-    pub edge: u32,
-    pub word: u64,
-}
 
 /// What a round writes before its end. The lists are kept from round to round.
 ///
@@ -93,14 +86,4 @@ pub fn note_change(
         changes.push(Change { edge, word: new })?;
     }
     Ok(())
-}
-
-/// Makes the changes, in order.
-pub fn make_changes(words: &mut [u64], changes: &[Change])
-    requires { All (λ change. change.edge < length words.old) changes.now }
-    ensures { words.new ≡ written words.old changes.now }
-{
-    for change in changes {
-        words[change.edge as usize] = change.word;
-    }
 }

@@ -4,12 +4,12 @@ ghost use Rattle.pg_graph.specs.Multigraph.{vertices, edge_numbers, edges_at};
 ghost use Rattle.pg_law.specs.Configuration.{Configuration, AreData, AreWords, AreMessages, IsFit, signalled, message_in};
 ghost use Rattle.pg_law.specs.Round.{outcomes, AreApplied, values_after, messages_after, final_word, with_signals, round as round_of};
 ghost use Rattle.pg_law.specs.Rounds.{gathers_in};
-ghost use Rattle.pg_rounds.specs.Carries.{carry_in};
+ghost use Rattle.pg_law.specs.Carries.{carry_in};
 
 use crate::apply::{apply_one, carry_of, datum_of, message_of};
 use crate::visit::{deliver, visit_edge};
 use pg_graph::Graph;
-use pg_law::{Applied, Datum, State, Steps, VertexProgram, laws_of};
+use pg_law::{Applied, Datum, EdgeWords, State, Steps, VertexProgram, laws_of};
 use std::alloc::{AllocError, Global};
 use std::sync::ledger::Ledger;
 
@@ -117,7 +117,7 @@ fn scatter_all<P: VertexProgram>(
     program: &P,
     graph: &Graph,
     values: &[Datum],
-    words: &[u64],
+    words: &EdgeWords,
     became: &[Option<Applied<P::Carry>>],
     messages: &mut [Option<u64>],
 ) -> Result<Vec<u64>, AllocError>
@@ -176,14 +176,14 @@ pub fn plain_round<P: VertexProgram, L: Ledger>(
         program,
         graph,
         values.as_slice(),
-        state.edges.as_slice(),
+        &state.edges,
         became,
         messages.as_mut_slice(),
     )?;
     Ok(Rounded {
         state: State {
             values,
-            edges,
+            edges: EdgeWords::from(edges),
             messages,
         },
         executions: applies.executions,

@@ -148,7 +148,11 @@ fn rounds_are_those_that_were_counted_by_hand(rt: HostRuntime) -> Result<(), Fai
             labels.map(|label| Datum::one(label)).as_slice(),
             "limit {limit}"
         );
-        assert_eq!(rt; state.edges.as_slice(), words.as_slice(), "limit {limit}");
+        assert_eq!(rt;
+            state.edges.to_vec(alloc)?.as_slice(),
+            words.as_slice(),
+            "limit {limit}"
+        );
     }
     Ok(())
 }
@@ -178,8 +182,8 @@ fn plain_rounds_agree(rt: HostRuntime) -> Result<(), Fail> {
             "limit {limit}"
         );
         assert_eq!(rt;
-            state.edges.as_slice(),
-            plain.edges.as_slice(),
+            state.edges.to_vec(alloc)?.as_slice(),
+            plain.edges.to_vec(alloc)?.as_slice(),
             "limit {limit}"
         );
         assert_eq!(rt;

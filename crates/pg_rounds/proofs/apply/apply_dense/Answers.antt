@@ -10,7 +10,7 @@ use Rattle.pg_law.specs.Values.{one}
 use Rattle.pg_law.specs.Program.{Program}
 use Rattle.pg_law.specs.Configuration.{Configuration, is_signalled, datum_in, message_in}
 use Rattle.pg_law.specs.Round.{outcome, outcomes, became_at, datum_after, message_after, edges_over}
-use Rattle.pg_rounds.specs.Carries.{carry_in}
+use Rattle.pg_law.specs.Carries.{carry_in}
 use Rattle.pg_rounds.proofs.Carrying.{runs_carried}
 use Rattle.pg_rounds.proofs.Steps.{becomes_some, passed_more}
 use Rattle.pg_rounds.proofs.apply.apply_dense.Goals as goal

@@ -3,7 +3,7 @@ use Rattle.std.specs.Prelude.{map, filter}
 use Rattle.std.specs.List.{range_with_len}
 use Rattle.pg_law.specs.Configuration.{is_signalled, datum_in, message_in}
 use Rattle.pg_law.specs.Round.{outcome, outcomes, became_at, datum_after, message_after}
-use Rattle.pg_rounds.specs.Carries.{carry_in}
+use Rattle.pg_law.specs.Carries.{carry_in}
 use Rattle.pg_rounds.proofs.apply.apply_dense.Given as goal
 
 -- the draft of the vertices so far

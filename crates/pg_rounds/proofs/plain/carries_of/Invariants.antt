@@ -1,6 +1,6 @@
 use Rattle.std.proofs.Common.{◌≡◌, take}
 use Rattle.std.specs.Prelude.{map}
-use Rattle.pg_rounds.specs.Carries.{carry_in}
+use Rattle.pg_law.specs.Carries.{carry_in}
 use Rattle.pg_rounds.proofs.plain.carries_of.Given as goal
 
 -- those so far

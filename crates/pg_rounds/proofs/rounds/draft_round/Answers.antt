@@ -7,9 +7,10 @@ use Rattle.pg_law.specs.Configuration.{Configuration}
 use Rattle.pg_law.specs.Round.{outcome, outcomes}
 use Rattle.pg_law.proofs.Fitting.{outcomes_own, values_after_own, messages_after_own}
 use Rattle.pg_law.proofs.Signals.{round_is}
-use Rattle.pg_rounds.specs.Carries.{carry_in, outcomes_with}
+use Rattle.pg_law.specs.Carries.{carry_in}
+use Rattle.pg_rounds.specs.Carries.{outcomes_with}
 use Rattle.pg_rounds.specs.Visits.{executes_in}
-use Rattle.pg_rounds.proofs.Lists.{map_agree, map_twice}
+use Rattle.pg_law.proofs.Lists.{map_agree, map_twice}
 use Rattle.pg_rounds.proofs.Carrying.{carries_own, runs_same, final_same, with_same}
 use Rattle.pg_rounds.proofs.Steps.{signalled_run}
 use Rattle.pg_rounds.proofs.rounds.draft_round.Goals as goal
@@ -23,7 +24,7 @@ visit_all-requires-clause-values g c κs within = let p = g.P.VertexProgram.mean
 
 pub visit_all-requires-clause-carries : goal.visit_all-requires-clause-carries
 visit_all-requires-clause-carries g c κs within = let p = g.P.VertexProgram.meaning c.args.program.now in
-    let carried = c.as_slice-3.ensures.value ∙ c.in_ok-gathers.ensures.carries ∙ sym (map_twice carry_in (outcome p c.args.graph.now c.args.state.now (λ v. true)) (vertices c.args.graph.now)) in
+    let carried = c.as_slice-2.ensures.value ∙ c.in_ok-gathers.ensures.carries ∙ sym (map_twice carry_in (outcome p c.args.graph.now c.args.state.now (λ v. true)) (vertices c.args.graph.now)) in
     rw carried (carries_own p c.args.graph.now _ (outcomes_own p c.args.graph.now c.laws_of.ensures c.vertices.ensures.graph c.args.state.now (λ v. true) c.requires))
 
 pub visit_all-requires-clause-frontier : goal.visit_all-requires-clause-frontier
@@ -32,8 +33,8 @@ visit_all-requires-clause-frontier g c κs within = let p = g.P.VertexProgram.me
     let state = c.args.state.now in
     let became = outcomes p graph state (λ v. true) in
     let count = (outcomes_own p graph c.laws_of.ensures c.vertices.ensures.graph state (λ v. true) c.requires).count in
-    let carried = c.as_slice-3.ensures.value ∙ c.in_ok-gathers.ensures.carries ∙ sym (map_twice carry_in (outcome p c.args.graph.now c.args.state.now (λ v. true)) (vertices c.args.graph.now)) in
-    rw (c.as_slice-4.ensures.value, c.in_ok-gathers.ensures.frontier, carried) (signalled_run p graph state c.requires.messages.count
+    let carried = c.as_slice-2.ensures.value ∙ c.in_ok-gathers.ensures.carries ∙ sym (map_twice carry_in (outcome p c.args.graph.now c.args.state.now (λ v. true)) (vertices c.args.graph.now)) in
+    rw (c.as_slice-3.ensures.value, c.in_ok-gathers.ensures.frontier, carried) (signalled_run p graph state c.requires.messages.count
     ∙ filter_agree (executes_in became) (executes_in (outcomes_with p graph (map carry_in became))) (λ v. sym (runs_same p graph became count v)) (vertices graph))
 
 pub visit_all-requires-clause-messages : goal.visit_all-requires-clause-messages
@@ -52,9 +53,9 @@ returns-clause-state g c = let p = g.P.VertexProgram.meaning c.args.program.now 
     let state = c.args.state.now in
     let became = outcomes p graph state (λ v. true) in
     let count = (outcomes_own p graph c.laws_of.ensures c.vertices.ensures.graph state (λ v. true) c.requires).count in
-    let same_words = c.as_slice-2.ensures.value ∙ ap (λ (s : Configuration). s.edges) c.state.view_is in
+    let same_words = ap (λ (s : Configuration). s.edges) c.state.view_is in
     let before_are = c.as_mut_slice.ensures.value ∙ c.in_ok-gathers.ensures.messages in
-    let carried = c.as_slice-3.ensures.value ∙ c.in_ok-gathers.ensures.carries ∙ sym (map_twice carry_in (outcome p c.args.graph.now c.args.state.now (λ v. true)) (vertices c.args.graph.now)) in
+    let carried = c.as_slice-2.ensures.value ∙ c.in_ok-gathers.ensures.carries ∙ sym (map_twice carry_in (outcome p c.args.graph.now c.args.state.now (λ v. true)) (vertices c.args.graph.now)) in
     let words_are = (rw (c.as_slice.ensures.value, same_words, carried) at c.in_ok-visit_all.ensures.words) ∙ map_agree _ _ (final_same p graph became count c.apply_all.new.draft.values.items state.edges) (edge_numbers graph) in
     let messages_are = (rw (c.as_slice.ensures.value, same_words, carried) at c.in_ok-visit_all.ensures.messages) ∙ map_agree _ _ (λ v. with_same p graph became count c.apply_all.new.draft.values.items state.edges v _ (edges_at graph v)) (vertices graph) in
     let whole = with_items_is c.apply_all.new.draft.messages c.visit_all.new.messages (omega (arith, c.visit_all.auto.messages, c.as_mut_slice.ensures.len)) in
@@ -64,4 +65,4 @@ pub returns-clause-inside : goal.returns-clause-inside
 returns-clause-inside g c = c.in_ok-visit_all.ensures.inside
 
 pub returns-clause-executions : goal.returns-clause-executions
-returns-clause-executions g c = c.len.ensures ∙ sym c.as_slice-4.ensures.len ∙ ap length (c.as_slice-4.ensures.value ∙ c.in_ok-gathers.ensures.frontier)
+returns-clause-executions g c = c.len.ensures ∙ sym c.as_slice-3.ensures.len ∙ ap length (c.as_slice-3.ensures.value ∙ c.in_ok-gathers.ensures.frontier)

@@ -3,7 +3,7 @@ use Rattle.std.specs.List.{range_with_len}
 use Rattle.std.proofs.lemmas.List.Elements.{All-nil}
 use Rattle.pg_graph.specs.Multigraph.{edge_numbers}
 use Rattle.pg_graph.proofs.Numbers.{numbers_more}
-use Rattle.pg_rounds.specs.declared.draft.Change.{Change}
+use Rattle.pg_law.specs.declared.edge_words.Change.{Change}
 use Rattle.pg_rounds.specs.Carries.{outcomes_with}
 use Rattle.pg_rounds.specs.Visits.{IsVisited}
 use Rattle.pg_rounds.proofs.Steps.{visited_none, visited_then}

@@ -6,7 +6,7 @@ use Rattle.std.proofs.lemmas.List.Concat.{flat_map-append}
 use Rattle.std.proofs.lemmas.List.Elements.{All-nil}
 use Rattle.pg_graph.proofs.Numbers.{filter_numbers_each}
 use Rattle.pg_graph.specs.Multigraph.{vertices}
-use Rattle.pg_rounds.specs.declared.draft.Change.{Change}
+use Rattle.pg_law.specs.declared.edge_words.Change.{Change}
 use Rattle.pg_rounds.specs.Carries.{outcomes_with}
 use Rattle.pg_rounds.specs.Visits.{executes_in, visits_of, visits, IsVisited}
 use Rattle.pg_rounds.proofs.Carrying.{with_own}

@@ -31,7 +31,7 @@ sent g c u h = c.deliver.ensures u (omega (arith, c.requires.messages.count)) âˆ
 
 pub returns-clause-visited : goal.returns-clause-visited
 returns-clause-visited g c = let p = g.P.VertexProgram.meaning c.args.program.now in
-    let noted = rw (c.in_ok-visit.ensures.word) at c.in_ok-note_change.ensures in
+    let noted = rw (c.in_ok-visit.ensures.word, c.word.ensures) at c.in_ok-note_change.ensures in
     visited_edge p c.args.graph.now c.args.values.now c.args.words.now (outcomes_with (g.P.VertexProgram.meaning c.args.program.now) c.args.graph.now c.args.carries.now) c.args.e c.args.messages.now c.deliver.new.messages c.args.changes.now.items c.note_change.new.changes.items (omega (arith, c.requires.words.count)) c.requires.e (sent g c) noted
 
 pub returns-clause-own : goal.returns-clause-own

@@ -1,6 +1,6 @@
 use Rattle.std.proofs.Common.{◌≡◌, take}
-use Rattle.pg_rounds.specs.Visits.{written}
-use Rattle.pg_rounds.proofs.draft.make_changes.Given as goal
+use Rattle.pg_law.specs.EdgeWords.{written}
+use Rattle.pg_law.proofs.edge_words.make_changes.Given as goal
 
 -- the changes so far are made
 abbrev pub invariant-loop-change : goal.invariant-loop-change
