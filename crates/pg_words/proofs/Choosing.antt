@@ -1,10 +1,11 @@
 -- What stands with an option more: that option, and what stood before. A new option is a row in each of these.
-use Rattle.std.proofs.Common.{◌≡◌, ◌≢◌, ℕ, ◌^◌, ◌-◌, false, ◌||◌, Option, Some, eqb, refl, sym, ap, ◌∙◌, subst, zero, suc}
+use Rattle.std.proofs.Common.{◌≡◌, ◌≢◌, ℕ, ◌^◌, ◌-◌, true, false, ◌||◌, Option, Some, None, eqb, refl, sym, ap, ◌∙◌, subst, zero, suc}
 use Rattle.std.specs.Option.{option_map}
 use Rattle.pg_base.specs.Numbers.{number_of}
 use Rattle.pg_readers.specs.declared.line.Format.{Format}
 use Rattle.pg_words.specs.Names.{Word, named, formats, format_word}
-use Rattle.pg_words.specs.Options.{no_choices, stands, with_value}
+use Rattle.pg_words.specs.Options.{no_choices, stands, with_flag, with_value}
+use Rattle.pg_words.specs.Jobs.{with_setting}
 use Rattle.pg_words.specs.declared.choices.Choices.{Choices}
 use Rattle.pg_words.specs.declared.names.OptionName.{OptionName}
 use Rattle.pg_words.specs.declared.names.OptionName.TheVariants as option
@@ -14,19 +15,25 @@ use Rattle.pg_words.proofs.Naming.{mapped}
 abbrev pub row : OptionName → ℕ
 row option.Format = 0
 row option.Rounds = 1
-row option.Source = 2
-row option.Tolerance = 3
+row option.Fuel = 2
+row option.Serial = 3
+row option.Source = 4
+row option.Tolerance = 5
 
 -- an option by its number
 abbrev pub at_row : ℕ → OptionName
 at_row zero = option.Format
 at_row (suc zero) = option.Rounds
-at_row (suc (suc zero)) = option.Source
+at_row (suc (suc zero)) = option.Fuel
+at_row (suc (suc (suc zero))) = option.Serial
+at_row (suc (suc (suc (suc zero)))) = option.Source
 at_row _ = option.Tolerance
 
 pub at_row-row : (option : OptionName) → at_row (row option) ≡ option
 at_row-row option.Format = refl
 at_row-row option.Rounds = refl
+at_row-row option.Fuel = refl
+at_row-row option.Serial = refl
 at_row-row option.Source = refl
 at_row-row option.Tolerance = refl
 
@@ -34,13 +41,17 @@ at_row-row option.Tolerance = refl
 pub stands-none : (option : OptionName) → stands no_choices option ≡ false
 stands-none option.Format = refl
 stands-none option.Rounds = refl
+stands-none option.Fuel = refl
+stands-none option.Serial = refl
 stands-none option.Source = refl
 stands-none option.Tolerance = refl
 
--- a value of an option
+-- what an option sets: its value, or itself
 pub data Value : Type 0 where
   of_format : Format → Value
   of_rounds : ℕ → Value
+  of_fuel : ℕ → Value
+  of_serial : Value
   of_source : ℕ → Value
   of_tolerance : ℕ → Value
 
@@ -48,6 +59,8 @@ pub data Value : Type 0 where
 abbrev pub option_of : Value → OptionName
 option_of (of_format x) = option.Format
 option_of (of_rounds x) = option.Rounds
+option_of (of_fuel x) = option.Fuel
+option_of of_serial = option.Serial
 option_of (of_source x) = option.Source
 option_of (of_tolerance x) = option.Tolerance
 
@@ -55,6 +68,8 @@ option_of (of_tolerance x) = option.Tolerance
 abbrev pub put : Choices → Value → Choices
 put c (of_format x) = record c { format = Some x }
 put c (of_rounds x) = record c { rounds = Some x }
+put c (of_fuel x) = record c { fuel = Some x }
+put c of_serial = record c { serial = true }
 put c (of_source x) = record c { source = Some x }
 put c (of_tolerance x) = record c { tolerance = Some x }
 
@@ -63,6 +78,8 @@ stands-put : (c : Choices) (value : Value) (other : OptionName)
     → stands (put c value) other ≡ (eqb (row (option_of value)) (row other) || stands c other)
 stands-put c (of_format x) option.Format = refl
 stands-put c (of_rounds x) option.Format = refl
+stands-put c (of_fuel x) option.Format = refl
+stands-put c of_serial option.Format = refl
 stands-put c (of_source x) option.Format = refl
 stands-put c (of_tolerance x) option.Format = refl
 stands-put c value other = refl
@@ -72,22 +89,28 @@ pub put-comm : (c : Choices) (value other : Value) → option_of value ≢ optio
     → put (put c value) other ≡ put (put c other) value
 put-comm c (of_format x) (of_format y) apart = absurd (apart refl)
 put-comm c (of_rounds x) (of_rounds y) apart = absurd (apart refl)
+put-comm c (of_fuel x) (of_fuel y) apart = absurd (apart refl)
+put-comm c of_serial of_serial apart = refl
 put-comm c (of_source x) (of_source y) apart = absurd (apart refl)
 put-comm c (of_tolerance x) (of_tolerance y) apart = absurd (apart refl)
 put-comm c value other apart = refl
 
--- the word is a value of the option, and puts it over whatever was chosen
-pub record IsPut (c : Choices) (option : OptionName) (word : Word) (d : Choices) : Type 0 where
+-- the one choice
+Some-is : (c d : Choices) → Some c ≡ Some d → c ≡ d
+Some-is c d e = cc
+
+-- the option stands so, and puts its value over whatever was chosen
+pub record IsPut (c : Choices) (option : OptionName) (word : Option Word) (d : Choices) : Type 0 where
   pub value : Value
   pub own : option_of value ≡ option
   pub is : put c value ≡ d
-  pub again : (other : Choices) → with_value other option word ≡ Some (put other value)
+  pub again : (other : Choices) → with_setting other option word ≡ Some (put other value)
 
 -- so it is for an option whose values are read to `of`
 read-IsPut : {X : Type 0} (of : X → Value) (found : Option X) (c d : Choices) (option : OptionName) (word : Word)
     → ((x : X) → option_of (of x) ≡ option)
     → ((other : Choices) → with_value other option word ≡ option_map (λ x. put other (of x)) found)
-    → with_value c option word ≡ Some d → IsPut c option word d
+    → with_value c option word ≡ Some d → IsPut c option (Some word) d
 read-IsPut of found c d option word own reads e =
     let value = mapped (λ x. put c (of x)) found d (sym (reads c) ∙ e) in
     record {
@@ -97,22 +120,35 @@ read-IsPut of found c d option word own reads e =
       again = λ other. reads other ∙ ap (option_map (λ x. put other (of x))) value.1;
     }
 
-pub with_value-IsPut : (c d : Choices) (option : OptionName) (word : Word)
-    → with_value c option word ≡ Some d → IsPut c option word d
+with_value-IsPut : (c d : Choices) (option : OptionName) (word : Word)
+    → with_value c option word ≡ Some d → IsPut c option (Some word) d
 with_value-IsPut c d option.Format word e =
     read-IsPut of_format (named format_word formats word) c d option.Format word (λ _. refl) (λ _. refl) e
 with_value-IsPut c d option.Rounds word e =
     read-IsPut of_rounds (number_of (2 ^ 32 - 1) word) c d option.Rounds word (λ _. refl) (λ _. refl) e
+with_value-IsPut c d option.Fuel word e =
+    read-IsPut of_fuel (number_of (2 ^ 32 - 1) word) c d option.Fuel word (λ _. refl) (λ _. refl) e
+with_value-IsPut c d option.Serial word e = cc
 with_value-IsPut c d option.Source word e =
     read-IsPut of_source (number_of (2 ^ 32 - 1) word) c d option.Source word (λ _. refl) (λ _. refl) e
 with_value-IsPut c d option.Tolerance word e =
     read-IsPut of_tolerance (number_of (2 ^ 64 - 1) word) c d option.Tolerance word (λ _. refl) (λ _. refl) e
 
+with_flag-IsPut : (c d : Choices) (option : OptionName) → with_flag c option ≡ Some d → IsPut c option None d
+with_flag-IsPut c d option.Serial e =
+    record { value = of_serial; own = refl; is = Some-is (record c { serial = true }) d e; again = λ _. refl }
+with_flag-IsPut c d _ e = cc
+
+pub with_setting-IsPut : (c d : Choices) (option : OptionName) (word : Option Word)
+    → with_setting c option word ≡ Some d → IsPut c option word d
+with_setting-IsPut c d option None e = with_flag-IsPut c d option e
+with_setting-IsPut c d option (Some word) e = with_value-IsPut c d option word e
+
 -- what stands with an option more
-pub stands-with_value : (c d : Choices) (option : OptionName) (word : Word) → with_value c option word ≡ Some d
+pub stands-with_setting : (c d : Choices) (option : OptionName) (word : Option Word) → with_setting c option word ≡ Some d
     → (other : OptionName) → stands d other ≡ (eqb (row option) (row other) || stands c other)
-stands-with_value c d option word e other =
-    let set = with_value-IsPut c d option word e in
+stands-with_setting c d option word e other =
+    let set = with_setting-IsPut c d option word e in
     let own = subst (λ (o : OptionName). stands (put c set.value) other ≡ (eqb (row o) (row other) || stands c other)) set.own
     (stands-put c set.value other) in
     subst (λ (more : Choices). stands more other ≡ (eqb (row option) (row other) || stands c other)) set.is own

@@ -1,25 +1,30 @@
--- Each word that may follow is one more behind what stands, and there are ten at most.
-use Rattle.std.proofs.Common.{◌≡◌, ℕ, ◌+◌, ◌*◌, ◌<◌, ◌≤◌, List, [], ◌∷◌, length, Bool, true, false, ◌||◌, cond, Some, Contains, count_by, refl, sym, ◌∙◌, eqb, arith, zero, suc, lit<, lit≤, subst}
+-- Each word that may follow is one more behind what stands, and there are fifteen at most.
+use Rattle.std.proofs.Common.{◌≡◌, ℕ, ◌+◌, ◌*◌, ◌<◌, ◌≤◌, List, [], ◌∷◌, length, Bool, true, false, ◌||◌, cond, Option, Some, None, Contains, count_by, refl, sym, ◌∙◌, eqb, arith, zero, suc, lit<, lit≤, subst}
 use Rattle.std.proofs.lemmas.Bool.{eq-eqb}
 use Rattle.std.specs.List.{slice_index_or}
 use Rattle.std.proofs.lemmas.List.Sums.{count_by-le-length, sum_by-cons}
 use Rattle.pg_words.specs.Names.{Word, options}
-use Rattle.pg_words.specs.Options.{stands, with_value}
-use Rattle.pg_words.specs.Reading.{next}
+use Rattle.pg_words.specs.Options.{stands, with_flag}
+use Rattle.pg_words.specs.Jobs.{with_setting}
+use Rattle.pg_words.specs.Reading.{next, behind_option}
 use Rattle.pg_words.specs.declared.choices.Choices.{Choices}
+use Rattle.pg_words.specs.declared.head.Head.{Head}
 use Rattle.pg_words.specs.declared.names.OptionName.{OptionName}
 use Rattle.pg_words.specs.declared.names.OptionName.TheVariants as option
 use Rattle.pg_words.specs.declared.reading.Reading.{Reading}
 use Rattle.pg_words.specs.declared.reading.Reading.TheVariants as reading
 use Rattle.pg_words.proofs.Naming.{engine_step, program_step, option_step, value_step}
-use Rattle.pg_words.proofs.Choosing.{row, stands-with_value}
+use Rattle.pg_words.proofs.Choosing.{row, stands-with_setting}
+use Rattle.pg_words.proofs.Settings.{free_parts}
 
 -- each option is among the options
 options-row : (option : OptionName) → Contains options option
 options-row option.Format = (0, lit< tt, refl)
 options-row option.Rounds = (1, lit< tt, refl)
-options-row option.Source = (2, lit< tt, refl)
-options-row option.Tolerance = (3, lit< tt, refl)
+options-row option.Fuel = (2, lit< tt, refl)
+options-row option.Serial = (3, lit< tt, refl)
+options-row option.Source = (4, lit< tt, refl)
+options-row option.Tolerance = (5, lit< tt, refl)
 
 module _ {X : Type 0} (p q : X → Bool) (keeps : (x : X) → p x ≡ true → q x ≡ true) where
   one-keeps : (b c : Bool) → (b ≡ true → c ≡ true) → cond b 1 0 ≤ cond c 1 0
@@ -65,14 +70,14 @@ or_right true b e = refl
 or_right false b e = e
 
 -- one more stands with a new option
-count-with_value : (c d : Choices) (option : OptionName) (word : Word) → stands c option ≡ false
-    → with_value c option word ≡ Some d → count c < count d
-count-with_value c d option word new e =
+count-with_setting : (c d : Choices) (option : OptionName) (word : Option Word) → stands c option ≡ false
+    → with_setting c option word ≡ Some d → count c < count d
+count-with_setting c d option word new e =
     let found = options-row option in
     count_by-gains (stands c) (stands d)
-    (λ other stood. stands-with_value c d option word e other ∙ or_right (eqb (row option) (row other)) (stands c other) stood)
+    (λ other stood. stands-with_setting c d option word e other ∙ or_right (eqb (row option) (row other)) (stands c other) stood)
     options option found.0 found.1 found.2 new
-    (stands-with_value c d option word e option ∙ rw (eq-eqb (row option) (row option) refl) refl)
+    (stands-with_setting c d option word e option ∙ rw (eq-eqb (row option) (row option) refl) refl)
 
 -- at least how many words are behind what stands
 abbrev pub words_behind : Reading → ℕ
@@ -87,15 +92,27 @@ words_behind-le (reading.Program engine) = lit≤ tt
 words_behind-le (reading.Options head c) = let most = count_by-le-length (stands c) options in omega arith
 words_behind-le (reading.Value head c option) = let most = count_by-le-length (stands c) options in omega arith
 
--- an option that waits for its value doesn't stand yet
+-- an option that waits for its value doesn't stand yet, and never stands alone
 abbrev pub IsFresh : Reading → Type 0
-IsFresh (reading.Value head c option) = stands c option ≡ false
+IsFresh (reading.Value head c option) = (stands c option ≡ false) × (with_flag c option ≡ None)
 IsFresh _ = Unit {0}
 
 -- what a word more makes of what stands
 pub record IsStep (standing more : Reading) : Type 0 where
   pub fresh : IsFresh more
   pub further : words_behind standing < words_behind more
+
+-- so does an option that may follow
+behind-IsStep : (head : Head) (c : Choices) (option : OptionName) → stands c option ≡ false
+    → IsStep (reading.Options head c) (behind_option head c option (with_flag c option))
+behind-IsStep head c option new =
+    let by_flag : (alone : Option Choices) → with_flag c option ≡ alone
+    → IsStep (reading.Options head c) (behind_option head c option alone) = λ alone. elim alone
+    as (λ o. with_flag c option ≡ o → IsStep (reading.Options head c) (behind_option head c option o)) [
+      | None ↦ λ e. record { fresh = (new, e); further = omega arith }
+      | Some d ↦ λ e. (let one = count-with_setting c d option None new e in record { fresh = tt; further = omega arith })
+    ] in
+    by_flag (with_flag c option) refl
 
 -- a word that may follow makes a step
 pub next-IsStep : (standing more : Reading) (word : Word) → IsFresh standing → next standing word ≡ Some more → IsStep standing more
@@ -107,8 +124,8 @@ next-IsStep (reading.Program engine) more word fresh e =
     subst (IsStep (reading.Program engine)) (sym step.is) (record { fresh = tt; further = lit< tt })
 next-IsStep (reading.Options head c) more word fresh e =
     let step = option_step head c word more e in
-    subst (IsStep (reading.Options head c)) (sym step.is) (record { fresh = step.open_yet; further = omega arith })
+    subst (IsStep (reading.Options head c)) (sym step.is) (behind-IsStep head c step.option (free_parts head c step.option step.free).1)
 next-IsStep (reading.Value head c option) more word fresh e =
     let step = value_step head c option word more e in
-    let one = count-with_value c step.chosen option word fresh step.valued in
+    let one = count-with_setting c step.chosen option (Some word) fresh.0 step.valued in
     subst (IsStep (reading.Value head c option)) (sym step.is) (record { fresh = tt; further = omega arith })

@@ -5,3 +5,4 @@ mod Naming
 mod Ordering
 mod Parsing
 mod Placing
+mod Settings

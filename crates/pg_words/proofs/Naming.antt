@@ -1,17 +1,16 @@
 -- A table's words and names fit each other, and what a step of the reading takes.
-use Rattle.std.proofs.Common.{◌≡◌, List, [], ◌∷◌, Bool, true, false, ◌&&◌, not, cond, Option, Some, None, refl, sym, subst}
-use Rattle.std.proofs.lemmas.Bool.{and_parts}
+use Rattle.std.proofs.Common.{◌≡◌, List, [], ◌∷◌, Bool, true, false, cond, Option, Some, None, refl, sym, subst}
 use Rattle.std.proofs.lemmas.Option.{cond_some, option_and_then_some}
 use Rattle.std.proofs.lemmas.Slice.Eq.{bytes_eq-Decides}
 use Rattle.std.specs.Option.{option_map}
 use Rattle.std.specs.Str.{bytes_eq}
 use Rattle.pg_words.specs.Names.{Word, named, engines, engine_word, programs, program_word, options, option_word}
-use Rattle.pg_words.specs.Options.{takes, stands, with_value}
-use Rattle.pg_words.specs.Reading.{next, with_program, with_option}
+use Rattle.pg_words.specs.Options.{with_flag, with_value}
+use Rattle.pg_words.specs.Reading.{next, with_program, is_free, behind_option, with_option}
 use Rattle.pg_words.specs.declared.choices.Choices.{Choices}
 use Rattle.pg_words.specs.declared.head.Head.{Head}
-use Rattle.pg_words.specs.declared.names.EngineWord.{EngineWord}
-use Rattle.pg_words.specs.declared.names.EngineWord.TheVariants.{Sync}
+use Rattle.pg_words.specs.declared.names.EngineName.{EngineName}
+use Rattle.pg_words.specs.declared.names.EngineName.TheVariants.{Sync, Async}
 use Rattle.pg_words.specs.declared.names.OptionName.{OptionName}
 use Rattle.pg_words.specs.declared.names.OptionName.TheVariants as option
 use Rattle.pg_words.specs.declared.names.ProgramWord.{ProgramWord}
@@ -35,8 +34,9 @@ named-word {X} word_of (first ∷ xs) word x e =
     by_test (bytes_eq word (word_of first)) refl e
 
 -- each engine is found by its word
-pub engine_word-named : (word : EngineWord) → named engine_word engines (engine_word word) ≡ Some word
+pub engine_word-named : (word : EngineName) → named engine_word engines (engine_word word) ≡ Some word
 engine_word-named Sync = refl
+engine_word-named Async = refl
 
 -- each program is found by its word
 pub program_word-named : (word : ProgramWord) → named program_word programs (program_word word) ≡ Some word
@@ -50,6 +50,8 @@ program_word-named program.Tree = refl
 pub option_word-named : (option : OptionName) → named option_word options (option_word option) ≡ Some option
 option_word-named option.Format = refl
 option_word-named option.Rounds = refl
+option_word-named option.Fuel = refl
+option_word-named option.Serial = refl
 option_word-named option.Source = refl
 option_word-named option.Tolerance = refl
 
@@ -61,7 +63,7 @@ mapped f (Some x) y e = (x, refl, cc)
 
 -- the first word was an engine's
 pub record IsEngine (word : Word) (more : Reading) : Type 0 where
-  pub engine : EngineWord
+  pub engine : EngineName
   pub same : word ≡ engine_word engine
   pub is : more ≡ reading.Program engine
 
@@ -72,12 +74,12 @@ engine_step word more e =
     record { engine = found.0; same = named-word engine_word engines word found.0 found.1; is = is }
 
 -- the second word was a program's
-pub record IsProgram (engine : EngineWord) (word : Word) (more : Reading) : Type 0 where
+pub record IsProgram (engine : EngineName) (word : Word) (more : Reading) : Type 0 where
   pub program : ProgramWord
   pub same : word ≡ program_word program
   pub is : more ≡ with_program engine program
 
-pub program_step : (engine : EngineWord) (word : Word) (more : Reading)
+pub program_step : (engine : EngineName) (word : Word) (more : Reading)
     → next (reading.Program engine) word ≡ Some more → IsProgram engine word more
 program_step engine word more e =
     let found = mapped (with_program engine) (named program_word programs word) more e in
@@ -88,25 +90,18 @@ program_step engine word more e =
 pub record IsOption (head : Head) (c : Choices) (word : Word) (more : Reading) : Type 0 where
   pub option : OptionName
   pub same : word ≡ option_word option
-  pub taken : takes head option ≡ true
-  pub open_yet : stands c option ≡ false
-  pub is : more ≡ reading.Value head c option
-
-pub not_true : (b : Bool) → not b ≡ true → b ≡ false
-not_true true e = cc
-not_true false e = refl
+  pub free : is_free head c option ≡ true
+  pub is : more ≡ behind_option head c option (with_flag c option)
 
 pub option_step : (head : Head) (c : Choices) (word : Word) (more : Reading)
     → next (reading.Options head c) word ≡ Some more → IsOption head c word more
 option_step head c word more e =
     option_and_then_some (with_option head c) (named option_word options word) more e (λ option found free.
-    (let parts = cond_some (takes head option && not (stands c option)) (reading.Value head c option) more free in
-    let both = and_parts (takes head option) (not (stands c option)) parts.0 in
+    (let parts = cond_some (is_free head c option) (behind_option head c option (with_flag c option)) more free in
     record {
       option = option;
       same = named-word option_word options word option found;
-      taken = both.0;
-      open_yet = not_true (stands c option) both.1;
+      free = parts.0;
       is = sym parts.1;
     }))
 

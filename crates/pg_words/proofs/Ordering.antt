@@ -1,83 +1,50 @@
 -- Two settings side by side may change places.
-use Rattle.std.proofs.Common.{◌≡◌, ◌≢◌, List, [], ◌∷◌, ◌++◌, true, false, ◌&&◌, not, Some, sym, ◌∙◌}
-use Rattle.std.proofs.lemmas.Bool.{and_parts}
-use Rattle.std.proofs.lemmas.Option.{cond_some, option_and_then_some}
-use Rattle.pg_words.specs.Names.{Word, option_word}
-use Rattle.pg_words.specs.Options.{takes, no_choices, stands, with_value}
-use Rattle.pg_words.specs.Jobs.{Setting, setting_words, head_words, IsJob}
-use Rattle.pg_words.specs.Reading.{after, with_option, job_at}
+use Rattle.std.proofs.Common.{◌≡◌, ◌≢◌, List, [], ◌∷◌, ◌++◌, sym, ◌∙◌, subst}
+use Rattle.pg_words.specs.Options.{no_choices}
+use Rattle.pg_words.specs.Jobs.{Setting, IsJobOf}
 use Rattle.pg_words.specs.declared.choices.Choices.{Choices}
 use Rattle.pg_words.specs.declared.head.Head.{Head}
 use Rattle.pg_words.specs.declared.job.Job.{Job}
-use Rattle.pg_words.specs.declared.reading.Reading.{Reading}
-use Rattle.pg_words.specs.declared.reading.Reading.TheVariants as reading
-use Rattle.pg_words.proofs.Naming.{engine_word-named, option_word-named, program_word-named, not_true, value_step}
-use Rattle.pg_words.proofs.Choosing.{option_of, put, put-comm, with_value-IsPut}
-use Rattle.pg_words.proofs.Parsing.{after-cons, after-setting, new_ahead, new_behind, IsJob-from_reading, job_of-IsJob}
-
--- the setting may stand, and so may the words behind it
-record IsSet (head : Head) (c : Choices) (setting : Setting) (words : List Word) (last : Reading) : Type 0 where
-  pub chosen : Choices
-  pub taken : takes head setting.option ≡ true
-  pub new : stands c setting.option ≡ false
-  pub valued : with_value c setting.option setting.value ≡ Some chosen
-  pub behind : after (reading.Options head chosen) words ≡ Some last
-
-setting_step : (head : Head) (c : Choices) (setting : Setting) (words : List Word) (last : Reading)
-    → after (reading.Options head c) (option_word setting.option ∷ setting.value ∷ words) ≡ Some last
-    → IsSet head c setting words last
-setting_step head c setting words last e =
-    let first = after-cons (reading.Options head c) (option_word setting.option) (setting.value ∷ words) last e in
-    let free : with_option head c setting.option ≡ Some first.more = rw (option_word-named setting.option) at first.follows in
-    let parts = cond_some (takes head setting.option && not (stands c setting.option)) (reading.Value head c setting.option) first.more free in
-    let both = and_parts (takes head setting.option) (not (stands c setting.option)) parts.0 in
-    let then = after-cons (reading.Value head c setting.option) setting.value words last (rw (← parts.1) at first.behind) in
-    let put = value_step head c setting.option setting.value then.more then.follows in
-    record {
-      chosen = put.chosen;
-      taken = both.0;
-      new = not_true (stands c setting.option) both.1;
-      valued = put.valued;
-      behind = rw put.is at then.behind;
-    }
+use Rattle.pg_words.proofs.Choosing.{option_of, put, put-comm, with_setting-IsPut}
+use Rattle.pg_words.proofs.Parsing.{Placed-IsJobOf, IsJobOf-Placed}
+use Rattle.pg_words.proofs.Settings.{Placed, free_parts, free_whole, new_ahead, new_behind}
 
 -- the first two settings change places
-swap_front : (head : Head) (c : Choices) (first second : Setting) (words : List Word) (last : Reading)
-    → after (reading.Options head c) (setting_words (first ∷ second ∷ []) ++ words) ≡ Some last
-    → after (reading.Options head c) (setting_words (second ∷ first ∷ []) ++ words) ≡ Some last
-swap_front head c first second words last e =
-    let one = setting_step head c first (option_word second.option ∷ second.value ∷ words) last e in
-    let two = setting_step head one.chosen second words last one.behind in
-    let apart = new_behind c one.chosen first.option first.value one.valued second.option two.new in
-    let set_first = with_value-IsPut c one.chosen first.option first.value one.valued in
-    let set_second = with_value-IsPut one.chosen two.chosen second.option second.value two.valued in
-    let valued = set_second.again c in
-    let new = new_ahead c (put c set_second.value) second.option second.value valued first.option (λ same. apart.0 (sym same)) one.new in
+swap_front : (head : Head) (c d : Choices) (first second : Setting) (back : List Setting)
+    → Placed head c (first ∷ second ∷ back) d → Placed head c (second ∷ first ∷ back) d
+swap_front head c d first second back (one, is_one, (two, is_two, rest)) =
+    let free_first = free_parts head c first.option is_one.free in
+    let free_second = free_parts head one second.option is_two.free in
+    let apart = new_behind c one first.option first.value is_one.set second.option free_second.1 in
+    let set_first = with_setting-IsPut c one first.option first.value is_one.set in
+    let set_second = with_setting-IsPut one two second.option second.value is_two.set in
+    let earlier = set_second.again c in
+    let new = new_ahead c (put c set_second.value) second.option second.value earlier first.option (λ same. apart.0 (sym same)) free_first.1 in
     let differ : option_of set_first.value ≢ option_of set_second.value = λ same. apart.0 (sym set_first.own ∙ (same ∙ set_second.own)) in
-    let same : put (put c set_second.value) set_first.value ≡ two.chosen =
-    sym (put-comm c set_first.value set_second.value differ) ∙ (rw set_first.is set_second.is) in
-    let behind = after-setting head (put c set_second.value) (put (put c set_second.value) set_first.value) first words last
-    one.taken new (set_first.again (put c set_second.value)) (rw same two.behind) in
-    after-setting head c (put c set_second.value) second (option_word first.option ∷ first.value ∷ words) last two.taken apart.1 valued behind
+    let same : put (put c set_second.value) set_first.value ≡ two =
+    sym (put-comm c set_first.value set_second.value differ) ∙ (rw set_first.is set_second.is) in (
+      put c set_second.value,
+      record { free = free_whole head c second.option free_second.0 apart.1; set = earlier },
+      (
+        put (put c set_second.value) set_first.value,
+        record {
+          free = free_whole head (put c set_second.value) first.option free_first.0 new;
+          set = set_first.again (put c set_second.value);
+        },
+        subst (λ (x : Choices). Placed head x back d) (sym same) rest,
+      ),
+    )
 
 -- two settings behind others change places
-swap : (head : Head) (c : Choices) (front back : List Setting) (first second : Setting) (last : Reading)
-    → after (reading.Options head c) (setting_words (front ++ first ∷ second ∷ back)) ≡ Some last
-    → after (reading.Options head c) (setting_words (front ++ second ∷ first ∷ back)) ≡ Some last
-swap head c [] back first second last e = swap_front head c first second (setting_words back) last e
-swap head c (setting ∷ front) back first second last e =
-    let set = setting_step head c setting (setting_words (front ++ first ∷ second ∷ back)) last e in
-    after-setting head c set.chosen setting (setting_words (front ++ second ∷ first ∷ back)) last set.taken set.new set.valued
-    (swap head set.chosen front back first second last set.behind)
+swap : (head : Head) (c d : Choices) (front back : List Setting) (first second : Setting)
+    → Placed head c (front ++ first ∷ second ∷ back) d → Placed head c (front ++ second ∷ first ∷ back) d
+swap head c d [] back first second placed = swap_front head c d first second back placed
+swap head c d (setting ∷ front) back first second (more, set, rest) = (more, set, swap head more d front back first second rest)
 
--- and name the same job
-pub IsJob-swap : (head : Head) (front back : List Setting) (first second : Setting) (job : Job)
-    → IsJob (head_words head ++ setting_words (front ++ first ∷ second ∷ back)) job
-    → IsJob (head_words head ++ setting_words (front ++ second ∷ first ∷ back)) job
-IsJob-swap head front back first second job is =
-    let engine = engine_word-named head.engine in
-    let program = program_word-named head.program in
-    let e = rw (engine, program) at (job_of-IsJob (head_words head ++ setting_words (front ++ first ∷ second ∷ back)) job is) in
-    option_and_then_some job_at (after (reading.Options head no_choices) (setting_words (front ++ first ∷ second ∷ back))) job e (λ last stands_last named.
-    (let swapped = swap head no_choices front back first second last stands_last in
-    IsJob-from_reading (head_words head ++ setting_words (front ++ second ∷ first ∷ back)) job (rw (engine, program, swapped) named)))
+-- and the job is the same
+pub IsJobOf-swap : (head : Head) (front back : List Setting) (first second : Setting) (job : Job)
+    → IsJobOf head (front ++ first ∷ second ∷ back) job → IsJobOf head (front ++ second ∷ first ∷ back) job
+IsJobOf-swap head front back first second job is =
+    let placed = IsJobOf-Placed head (front ++ first ∷ second ∷ back) job is in
+    Placed-IsJobOf head (front ++ second ∷ first ∷ back) placed.made job
+    (swap head no_choices placed.made front back first second placed.placed) placed.meant

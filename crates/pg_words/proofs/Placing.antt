@@ -1,6 +1,7 @@
 -- Where words go wrong: behind words that something stands after, at a word that may not follow.
 use Rattle.std.proofs.Common.{◌≡◌, ℕ, ◌+◌, ◌<◌, ◌≤◌, List, [], ◌∷◌, ◌++◌, length, take, drop, map, get_or, Option, Some, None, option_and_then, append_assoc, refl, sym, subst, ap, ◌∙◌, arith, zero, suc, inl, inr}
 use Rattle.std.proofs.lemmas.Bool.{cases_lt}
+use Rattle.std.proofs.lemmas.Option.{option_and_then_some}
 use Rattle.std.proofs.lemmas.List.{take-append-drop, take_all, take_more, length-map, get_or-map}
 use Rattle.pg_words.specs.Names.{Word}
 use Rattle.pg_words.specs.Jobs.{IsJob, BeginsJob, IsPlace}
@@ -8,6 +9,7 @@ use Rattle.pg_words.specs.Reading.{next, after, job_at, job_of}
 use Rattle.pg_words.specs.declared.reading.Reading.{Reading}
 use Rattle.pg_words.specs.declared.reading.Reading.TheVariants as reading
 use Rattle.pg_words.proofs.Completing.{can_end}
+use Rattle.pg_words.proofs.Counting.{IsFresh, next-IsStep}
 use Rattle.pg_words.proofs.Parsing.{IsJob-from_reading, job_of-IsJob}
 
 -- words are read in parts
@@ -30,10 +32,17 @@ after-push words word standing e =
     λ o. elim o as (λ v. option_and_then (λ more. Some more) v ≡ v) [ None ↦ refl | Some r ↦ refl ] in
     parts ∙ (rw e (last (next standing word)))
 
+-- what is fresh is fresh with words more
+after-IsFresh : (standing last : Reading) (words : List Word) → IsFresh standing → after standing words ≡ Some last → IsFresh last
+after-IsFresh standing last [] fresh e = let same : standing ≡ last = cc in subst IsFresh same fresh
+after-IsFresh standing last (word ∷ words) fresh e =
+    option_and_then_some (λ more. after more words) (next standing word) last e (λ more follows behind.
+    after-IsFresh more last words (next-IsStep standing more word fresh follows).fresh behind)
+
 -- words after which something stands begin a job
 begins : (words : List Word) (standing : Reading) → after reading.Start words ≡ Some standing → BeginsJob words
 begins words standing e =
-    let end = can_end standing in
+    let end = can_end standing (after-IsFresh reading.Start standing words tt e) in
     let parts = after-append reading.Start words end.0 in
     let read : job_of (words ++ end.0) ≡ Some end.1 =
     subst (λ (o : Option Reading). option_and_then job_at o ≡ Some end.1) (sym (parts ∙ rw e refl)) end.2 in

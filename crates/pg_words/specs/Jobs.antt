@@ -1,7 +1,7 @@
 -- Which words name which job, and where words that name none go wrong.
-use Rattle.std.specs.Prelude.{◌≡◌, ◌≢◌, ℕ, ◌+◌, ◌<◌, ◌≤◌, List, [], ◌∷◌, ◌++◌, length, take, Option, Some, IsTrue, All, AllPairs, flat_map, option_and_then}
+use Rattle.std.specs.Prelude.{◌≡◌, ◌≢◌, ℕ, ◌+◌, ◌<◌, ◌≤◌, List, [], ◌∷◌, ◌++◌, length, take, Option, Some, IsTrue, All, AllPairs, flat_map, option_and_then, None}
 use Rattle.pg_words.specs.Names.{Word, engine_word, program_word, option_word}
-use Rattle.pg_words.specs.Options.{takes, no_choices, with_value, job_from}
+use Rattle.pg_words.specs.Options.{takes, no_choices, with_flag, with_value, job_from}
 use Rattle.pg_words.specs.declared.choices.Choices.{Choices}
 use Rattle.pg_words.specs.declared.head.Head.{Head}
 use Rattle.pg_words.specs.declared.names.OptionName.{OptionName}
@@ -11,31 +11,44 @@ use Rattle.pg_words.specs.declared.job.Job.{Job}
 abbrev pub head_words : Head → List Word
 head_words head = engine_word head.engine ∷ program_word head.program ∷ []
 
--- an option that stands, and the word behind it
+-- an option that stands, alone or with a word behind it
 pub record Setting : Type 0 where
   pub option : OptionName
-  pub value : Word
+  pub value : Option Word
 
--- the words of settings, two for each
+-- the words of a setting
+abbrev pub spelling : OptionName → Option Word → List Word
+spelling option None = option_word option ∷ []
+spelling option (Some value) = option_word option ∷ value ∷ []
+
+-- the words of settings, one after another
 abbrev pub setting_words : List Setting → List Word
-setting_words settings =
-    flat_map (λ setting. option_word setting.option ∷ setting.value ∷ []) settings
+setting_words settings = flat_map (λ setting. spelling setting.option setting.value) settings
 
--- what settings choose over what was chosen before, or None where a word is no value of its option
+-- the choices with a setting more, or None where the option doesn't stand so
+abbrev pub with_setting : Choices → OptionName → Option Word → Option Choices
+with_setting c option None = with_flag c option
+with_setting c option (Some value) = with_value c option value
+
+-- what settings choose over what was chosen before, or None where an option doesn't stand so
 abbrev pub chosen : Choices → List Setting → Option Choices
 chosen c [] = Some c
 chosen c (setting ∷ settings) =
-    option_and_then (λ more. chosen more settings) (with_value c setting.option setting.value)
+    option_and_then (λ more. chosen more settings) (with_setting c setting.option setting.value)
 
--- the words name the job: the words of a head, and settings in any order, each of an option that may
--- stand there, none of an option that stands already
+-- the job of a head and settings, each of an option that may stand there, none of an option that
+-- stands already
+pub record IsJobOf (head : Head) (settings : List Setting) (job : Job) : Type 0 where
+  pub taken : All (λ setting. IsTrue (takes head setting.option)) settings
+  pub once : AllPairs (λ earlier later. earlier.option ≢ later.option) settings
+  pub meant : option_and_then (job_from head) (chosen no_choices settings) ≡ Some job
+
+-- the words name the job: they are the words of a head, and of settings in any order
 pub record IsJob (words : List Word) (job : Job) : Type 0 where
   pub head : Head
   pub settings : List Setting
   pub spelled : words ≡ head_words head ++ setting_words settings
-  pub taken : All (λ setting. IsTrue (takes head setting.option)) settings
-  pub once : AllPairs (λ earlier later. earlier.option ≢ later.option) settings
-  pub meant : option_and_then (job_from head) (chosen no_choices settings) ≡ Some job
+  pub is : IsJobOf head settings job
 
 -- the words are the first of a job's words
 abbrev pub BeginsJob : List Word → Type 0
@@ -52,8 +65,8 @@ abbrev pub OnePlace : Type 0
 OnePlace = (words : List Word) (place other : ℕ)
     → IsPlace words place → IsPlace words other → place ≡ other
 
--- two settings side by side change places, and the words name the same job
+-- two settings side by side change places, and the job is the same
 abbrev pub OrderIsFree : Type 0
 OrderIsFree = (head : Head) (front back : List Setting) (first second : Setting) (job : Job)
-    → IsJob (head_words head ++ setting_words (front ++ first ∷ second ∷ back)) job
-    → IsJob (head_words head ++ setting_words (front ++ second ∷ first ∷ back)) job
+    → IsJobOf head (front ++ first ∷ second ∷ back) job
+    → IsJobOf head (front ++ second ∷ first ∷ back) job

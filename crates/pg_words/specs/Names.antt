@@ -3,8 +3,8 @@ use Rattle.std.specs.Prelude.{ℕ, List, [], ◌∷◌, Bool, true, false, Optio
 use Rattle.std.specs.Str.{bytes_eq}
 use Rattle.pg_readers.specs.declared.line.Format.{Format}
 use Rattle.pg_readers.specs.declared.line.Format.TheVariants as format
-use Rattle.pg_words.specs.declared.names.EngineWord.{EngineWord}
-use Rattle.pg_words.specs.declared.names.EngineWord.TheVariants.{Sync}
+use Rattle.pg_words.specs.declared.names.EngineName.{EngineName}
+use Rattle.pg_words.specs.declared.names.EngineName.TheVariants.{Sync, Async}
 use Rattle.pg_words.specs.declared.names.ProgramWord.{ProgramWord}
 use Rattle.pg_words.specs.declared.names.ProgramWord.TheVariants as program
 use Rattle.pg_words.specs.declared.names.OptionName.{OptionName}
@@ -15,11 +15,12 @@ abbrev pub Word : Type 0
 Word = List ℕ
 
 -- the engines
-abbrev pub engines : List EngineWord
-engines = Sync ∷ []
+abbrev pub engines : List EngineName
+engines = Sync ∷ Async ∷ []
 
-abbrev pub engine_word : EngineWord → Word
+abbrev pub engine_word : EngineName → Word
 engine_word Sync = codes "sync"
+engine_word Async = codes "async"
 
 -- the programs
 abbrev pub programs : List ProgramWord
@@ -43,11 +44,20 @@ format_word format.Adj = codes "adj"
 
 -- the options
 abbrev pub options : List OptionName
-options = option.Format ∷ option.Rounds ∷ option.Source ∷ option.Tolerance ∷ []
+options =
+    option.Format
+    ∷ option.Rounds
+    ∷ option.Fuel
+    ∷ option.Serial
+    ∷ option.Source
+    ∷ option.Tolerance
+    ∷ []
 
 abbrev pub option_word : OptionName → Word
 option_word option.Format = codes "--format"
 option_word option.Rounds = codes "--rounds"
+option_word option.Fuel = codes "--fuel"
+option_word option.Serial = codes "--serial"
 option_word option.Source = codes "--source"
 option_word option.Tolerance = codes "--tolerance"
 
@@ -57,8 +67,14 @@ named word_of [] word = None
 named word_of (x ∷ xs) word = if bytes_eq word (word_of x) then Some x else named word_of xs word
 
 -- the engines that work in rounds
-abbrev pub has_rounds : EngineWord → Bool
+abbrev pub has_rounds : EngineName → Bool
 has_rounds Sync = true
+has_rounds Async = false
+
+-- the engines that execute vertex by vertex
+abbrev pub has_fuel : EngineName → Bool
+has_fuel Sync = false
+has_fuel Async = true
 
 -- the programs whose paths begin at a source
 abbrev pub has_source : ProgramWord → Bool

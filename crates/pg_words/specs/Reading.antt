@@ -1,12 +1,12 @@
 -- Words read from left to right: what stands tells which word may follow.
-use Rattle.std.specs.Prelude.{◌≡◌, ◌↔◌, List, [], ◌∷◌, ◌&&◌, not, Option, Some, None, option_and_then, if◌then◌else◌}
+use Rattle.std.specs.Prelude.{◌≡◌, ◌↔◌, List, [], ◌∷◌, Bool, ◌&&◌, not, Option, Some, None, option_and_then, if◌then◌else◌}
 use Rattle.std.specs.Option.{option_map}
 use Rattle.pg_words.specs.Names.{Word, named, engines, engine_word, programs, program_word, options, option_word}
-use Rattle.pg_words.specs.Options.{takes, no_choices, stands, with_value, job_from}
+use Rattle.pg_words.specs.Options.{takes, no_choices, stands, with_flag, with_value, job_from}
 use Rattle.pg_words.specs.Jobs.{IsJob}
 use Rattle.pg_words.specs.declared.choices.Choices.{Choices}
 use Rattle.pg_words.specs.declared.head.Head.{Head}
-use Rattle.pg_words.specs.declared.names.EngineWord.{EngineWord}
+use Rattle.pg_words.specs.declared.names.EngineName.{EngineName}
 use Rattle.pg_words.specs.declared.names.OptionName.{OptionName}
 use Rattle.pg_words.specs.declared.names.ProgramWord.{ProgramWord}
 use Rattle.pg_words.specs.declared.job.Job.{Job}
@@ -14,14 +14,23 @@ use Rattle.pg_words.specs.declared.reading.Reading.{Reading}
 use Rattle.pg_words.specs.declared.reading.Reading.TheVariants as reading
 
 -- behind a program options may follow
-abbrev pub with_program : EngineWord → ProgramWord → Reading
+abbrev pub with_program : EngineName → ProgramWord → Reading
 with_program engine program =
     reading.Options (record { engine = engine; program = program }) no_choices
 
+-- behind an option that stands alone options may follow, behind another its value
+abbrev pub behind_option : Head → Choices → OptionName → Option Choices → Reading
+behind_option head c option None = reading.Value head c option
+behind_option head c option (Some more) = reading.Options head more
+
 -- an option may follow where the head takes it and it doesn't stand yet
+abbrev pub is_free : Head → Choices → OptionName → Bool
+is_free head c option = takes head option && not (stands c option)
+
+-- what stands with an option more
 abbrev pub with_option : Head → Choices → OptionName → Option Reading
 with_option head c option =
-    if takes head option && not (stands c option) then Some (reading.Value head c option) else None
+    if is_free head c option then Some (behind_option head c option (with_flag c option)) else None
 
 -- what stands with a word more, or None where the word may not follow
 abbrev pub next : Reading → Word → Option Reading

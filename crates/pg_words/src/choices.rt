@@ -4,21 +4,23 @@ ghost use Rattle.pg_base.specs.Numbers.{number_of};
 
 use crate::head::Head;
 use crate::job::{Engine, Job, ProgramName, RunJob};
-use crate::names::{EngineWord, OptionName, ProgramWord, format_named};
+use crate::names::{EngineName, OptionName, ProgramWord, format_named};
 use pg_base::read_number;
 use pg_readers::Format;
 
-/// The value of each option, where it stands.
+/// The value of each option, where it stands, and whether each stands that has none.
 #[derive(Clone, Copy)]
 pub struct Choices {
     pub format: Option<Format>,
     pub rounds: Option<u32>,
+    pub fuel: Option<u32>,
+    pub serial: bool,
     pub source: Option<u32>,
     pub tolerance: Option<u64>,
 }
 
 impl Choices {
-    ghost use Rattle.pg_words.specs.Options.{no_choices, stands, with_value, engine_of, program_of, job_from};
+    ghost use Rattle.pg_words.specs.Options.{no_choices, stands, with_flag, with_value, engine_of, program_of, job_from};
 
     /// No option stands.
     pub fn new() -> Choices
@@ -27,6 +29,8 @@ impl Choices {
         Choices {
             format: None,
             rounds: None,
+            fuel: None,
+            serial: false,
             source: None,
             tolerance: None,
         }
@@ -39,8 +43,23 @@ impl Choices {
         match option {
             OptionName::Format => self.format.is_some(),
             OptionName::Rounds => self.rounds.is_some(),
+            OptionName::Fuel => self.fuel.is_some(),
+            OptionName::Serial => self.serial,
             OptionName::Source => self.source.is_some(),
             OptionName::Tolerance => self.tolerance.is_some(),
+        }
+    }
+
+    /// These choices and an option more that stands alone, unless a value is to follow it.
+    pub fn with_flag(self, option: OptionName) -> Option<Choices>
+        ensures { result ≡ with_flag self option }
+    {
+        match option {
+            OptionName::Serial => Some(Choices {
+                serial: true,
+                ..self
+            }),
+            _ => None,
         }
     }
 
@@ -57,6 +76,11 @@ impl Choices {
                 rounds: Some(read_u32(word)?),
                 ..self
             }),
+            OptionName::Fuel => Some(Choices {
+                fuel: Some(read_u32(word)?),
+                ..self
+            }),
+            OptionName::Serial => None,
             OptionName::Source => Some(Choices {
                 source: Some(read_u32(word)?),
                 ..self
@@ -68,14 +92,19 @@ impl Choices {
         }
     }
 
-    /// The engine with its limit.
-    fn engine(&self, word: EngineWord) -> Engine
-        ensures { result ≡ engine_of word self.now }
+    /// The engine with its limit, unless it is `async` and `--serial` is missing: it has no other way
+    /// to run.
+    fn engine(&self, name: EngineName) -> Option<Engine>
+        ensures { result ≡ engine_of name self.now }
     {
-        match word {
-            EngineWord::Sync => Engine::Sync {
+        match name {
+            EngineName::Sync => Some(Engine::Sync {
                 rounds: self.rounds.unwrap_or(1_000_000),
-            },
+            }),
+            EngineName::Async if self.serial => Some(Engine::Serial {
+                fuel: self.fuel.unwrap_or(1_000_000_000),
+            }),
+            EngineName::Async => None,
         }
     }
 
@@ -103,7 +132,7 @@ impl Choices {
         ensures { result ≡ job_from head self.now }
     {
         Some(Job::Run(RunJob {
-            engine: self.engine(head.engine),
+            engine: self.engine(head.engine)?,
             program: self.program(head.program)?,
             format: self.format.unwrap_or(Format::Snap),
         }))

@@ -1,12 +1,12 @@
 //! The words before the options.
 ghost use Rattle.std.specs.Prelude.{◌≡◌};
 
-use crate::names::{EngineWord, OptionName, ProgramWord};
+use crate::names::{EngineName, OptionName, ProgramWord};
 
 /// The words before the options: an engine and a program.
 #[derive(Clone, Copy)]
 pub struct Head {
-    pub engine: EngineWord,
+    pub engine: EngineName,
     pub program: ProgramWord,
 }
 
@@ -20,6 +20,8 @@ impl Head {
         match option {
             OptionName::Format => true,
             OptionName::Rounds => self.engine.has_rounds(),
+            OptionName::Fuel => self.engine.has_fuel(),
+            OptionName::Serial => self.engine.has_fuel(),
             OptionName::Source => self.program.has_source(),
             OptionName::Tolerance => self.program.has_tolerance(),
         }

@@ -9,6 +9,8 @@ use pg_readers::Format;
 pub enum Engine {
     /// Rounds, so many at most.
     Sync { rounds: u32 },
+    /// One vertex after another on one thread, so many executions at most.
+    Serial { fuel: u32 },
 }
 
 /// A program with its number, where it has one.

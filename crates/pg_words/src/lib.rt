@@ -9,6 +9,7 @@ mod names;
 mod reading;
 
 pub use job::{Engine, Job, ProgramName, RunJob};
+pub use names::EngineName;
 pub use reading::{Usage, read_words};
 
 #[cfg(test)]

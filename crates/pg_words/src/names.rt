@@ -1,22 +1,27 @@
 //! Words that are names: a row each.
 ghost use Rattle.std.specs.Prelude.{◌≡◌};
-ghost use Rattle.pg_words.specs.Names.{named, engines, engine_word, programs, program_word, formats, format_word, options, option_word, has_rounds, has_source, has_tolerance};
+ghost use Rattle.pg_words.specs.Names.{named, engines, engine_word, programs, program_word, formats, format_word, options, option_word, has_rounds, has_fuel, has_source, has_tolerance};
 
 use pg_readers::Format;
 
 /// An engine by its word.
-#[derive(Clone, Copy)]
-pub enum EngineWord {
+#[derive(Clone, Copy, Debug, PartialEq, Eq)]
+pub enum EngineName {
+    /// All signalled vertices at once, round after round.
     Sync,
+    /// One signalled vertex after another, as a journal tells.
+    Async,
 }
 
-impl EngineWord {
+impl EngineName {
     /// The engine of a word.
-    pub fn named(word: &str) -> Option<EngineWord>
+    pub fn named(word: &str) -> Option<EngineName>
         ensures { result ≡ named engine_word engines word.now }
     {
         if word == "sync" {
-            Some(EngineWord::Sync)
+            Some(EngineName::Sync)
+        } else if word == "async" {
+            Some(EngineName::Async)
         } else {
             None
         }
@@ -26,7 +31,14 @@ impl EngineWord {
     pub fn has_rounds(self) -> bool
         ensures { result ≡ has_rounds self }
     {
-        matches!(self, EngineWord::Sync)
+        matches!(self, EngineName::Sync)
+    }
+
+    /// Whether it executes vertex by vertex.
+    pub fn has_fuel(self) -> bool
+        ensures { result ≡ has_fuel self }
+    {
+        matches!(self, EngineName::Async)
     }
 }
 
@@ -80,6 +92,8 @@ impl ProgramWord {
 pub enum OptionName {
     Format,
     Rounds,
+    Fuel,
+    Serial,
     Source,
     Tolerance,
 }
@@ -93,6 +107,10 @@ impl OptionName {
             Some(OptionName::Format)
         } else if word == "--rounds" {
             Some(OptionName::Rounds)
+        } else if word == "--fuel" {
+            Some(OptionName::Fuel)
+        } else if word == "--serial" {
+            Some(OptionName::Serial)
         } else if word == "--source" {
             Some(OptionName::Source)
         } else if word == "--tolerance" {

@@ -1,12 +1,13 @@
 //! Words read from left to right.
 ghost use Rattle.std.specs.Prelude.{◌≡◌, None, Some, map, IfOk, IfErr, OnErr, string_bytes};
 ghost use Rattle.pg_words.specs.Jobs.{IsJob, IsPlace};
-ghost use Rattle.pg_words.specs.Reading.{next, job_at, job_of};
+ghost use Rattle.pg_words.specs.Options.{with_flag};
+ghost use Rattle.pg_words.specs.Reading.{is_free, behind_option, next, job_at, job_of};
 
 use crate::choices::Choices;
 use crate::head::Head;
 use crate::job::Job;
-use crate::names::{EngineWord, OptionName, ProgramWord};
+use crate::names::{EngineName, OptionName, ProgramWord};
 
 /// Words that name no job.
 #[derive(Clone, Copy, Debug, PartialEq, Eq)]
@@ -20,18 +21,28 @@ pub struct Usage {
 #[derive(Clone, Copy)]
 pub enum Reading {
     Start,
-    Program(EngineWord),
+    Program(EngineName),
     Options(Head, Choices),
     Value(Head, Choices, OptionName),
 }
 
 impl Reading {
+    /// What stands behind an option: one that stands alone sets, and another waits for its value.
+    fn behind(head: Head, choices: Choices, option: OptionName) -> Reading
+        ensures { result ≡ behind_option head choices option (with_flag choices option) }
+    {
+        match choices.with_flag(option) {
+            Some(more) => Reading::Options(head, more),
+            None => Reading::Value(head, choices, option),
+        }
+    }
+
     /// What stands with a word more, unless the word may not follow.
     pub fn next(self, word: &str) -> Option<Reading>
         ensures { result ≡ next self word.now }
     {
         match self {
-            Reading::Start => Some(Reading::Program(EngineWord::named(word)?)),
+            Reading::Start => Some(Reading::Program(EngineName::named(word)?)),
             Reading::Program(engine) => Some(Reading::Options(
                 Head {
                     engine,
@@ -41,8 +52,8 @@ impl Reading {
             )),
             Reading::Options(head, choices) => {
                 let option = OptionName::named(word)?;
-                if head.takes(option) && !choices.has(option) {
-                    Some(Reading::Value(head, choices, option))
+                if is_free(head, choices, option) {
+                    Some(Reading::behind(head, choices, option))
                 } else {
                     None
                 }
@@ -63,6 +74,13 @@ impl Reading {
             _ => None,
         }
     }
+}
+
+/// Whether an option may follow: the head takes it, and it doesn't stand yet.
+fn is_free(head: Head, choices: Choices, option: OptionName) -> bool
+    ensures { result ≡ is_free head choices option }
+{
+    head.takes(option) && !choices.has(option)
 }
 
 /// The job that the words name, or the place where they go wrong.

@@ -6,93 +6,118 @@ use std::alloc::{AllocError, Global};
 use std::test::Fail;
 
 #[test]
-fn words_name_their_job(rt: HostRuntime) -> Result<(), Fail> {
+fn words_name_their_run(rt: HostRuntime) -> Result<(), Fail> {
     let rows = [
-        (
-            "sync components",
-            run(ProgramName::Components, 1_000_000, Format::Snap),
-        ),
-        (
-            "sync colour",
-            run(ProgramName::Colour, 1_000_000, Format::Snap),
-        ),
+        ("sync components", sync(ProgramName::Components)),
+        ("sync colour", sync(ProgramName::Colour)),
         (
             "sync sssp --source 0",
-            run(ProgramName::Sssp { source: 0 }, 1_000_000, Format::Snap),
+            sync(ProgramName::Sssp { source: 0 }),
         ),
-        (
-            "sync rank",
-            run(ProgramName::Rank { tolerance: 0 }, 1_000_000, Format::Snap),
-        ),
+        ("sync rank", sync(ProgramName::Rank { tolerance: 0 })),
         (
             "sync tree --source 7",
-            run(ProgramName::Tree { source: 7 }, 1_000_000, Format::Snap),
+            sync(ProgramName::Tree { source: 7 }),
+        ),
+        ("async components --serial", serial(ProgramName::Components)),
+        ("async colour --serial", serial(ProgramName::Colour)),
+        (
+            "async sssp --serial --source 0",
+            serial(ProgramName::Sssp { source: 0 }),
+        ),
+        (
+            "async rank --serial",
+            serial(ProgramName::Rank { tolerance: 0 }),
+        ),
+        (
+            "async tree --source 7 --serial",
+            serial(ProgramName::Tree { source: 7 }),
         ),
     ];
-    for (text, job) in rows {
+    for (text, run) in rows {
         let words = words_of(rt.alloc(), text)?;
-        assert_eq!(rt; read_words(&words), Ok(job), "{text}");
+        assert_eq!(rt; read_words(&words), Ok(Job::Run(run)), "{text}");
     }
     Ok(())
 }
 
 #[test]
 fn options_set_what_they_say_in_any_order(rt: HostRuntime) -> Result<(), Fail> {
+    let colour = sync(ProgramName::Colour);
+    let components = serial(ProgramName::Components);
     let rows = [
+        ("sync colour --format snap", colour),
         (
-            "sync components --format snap",
-            run(ProgramName::Components, 1_000_000, Format::Snap),
+            "sync colour --format tsv",
+            RunJob {
+                format: Format::Tsv,
+                ..colour
+            },
         ),
         (
-            "sync components --format tsv",
-            run(ProgramName::Components, 1_000_000, Format::Tsv),
-        ),
-        (
-            "sync components --format adj",
-            run(ProgramName::Components, 1_000_000, Format::Adj),
+            "sync colour --format adj",
+            RunJob {
+                format: Format::Adj,
+                ..colour
+            },
         ),
         (
             "sync colour --rounds 0",
-            run(ProgramName::Colour, 0, Format::Snap),
+            RunJob {
+                engine: Engine::Sync { rounds: 0 },
+                ..colour
+            },
         ),
         (
             "sync colour --rounds 4294967295",
-            run(ProgramName::Colour, 4294967295, Format::Snap),
+            RunJob {
+                engine: Engine::Sync { rounds: 4294967295 },
+                ..colour
+            },
         ),
         (
             "sync colour --rounds 000000000000000000000000000042",
-            run(ProgramName::Colour, 42, Format::Snap),
+            RunJob {
+                engine: Engine::Sync { rounds: 42 },
+                ..colour
+            },
+        ),
+        (
+            "async components --fuel 0 --serial",
+            RunJob {
+                engine: Engine::Serial { fuel: 0 },
+                ..components
+            },
+        ),
+        (
+            "async components --serial --fuel 4294967295",
+            RunJob {
+                engine: Engine::Serial { fuel: 4294967295 },
+                ..components
+            },
         ),
         (
             "sync sssp --source 4294967295 --rounds 3 --format adj",
-            run(ProgramName::Sssp { source: 4294967295 }, 3, Format::Adj),
+            paths_from_the_last_id(),
         ),
         (
             "sync sssp --format adj --rounds 3 --source 4294967295",
-            run(ProgramName::Sssp { source: 4294967295 }, 3, Format::Adj),
+            paths_from_the_last_id(),
         ),
         (
-            "sync rank --tolerance 18446744073709551615 --format tsv",
-            run(
-                ProgramName::Rank {
-                    tolerance: 18446744073709551615,
-                },
-                1_000_000,
-                Format::Tsv,
-            ),
+            "sync rank --tolerance 18446744073709551615",
+            sync(ProgramName::Rank {
+                tolerance: 18446744073709551615,
+            }),
         ),
         (
-            "sync rank --rounds 1 --tolerance 007",
-            run(ProgramName::Rank { tolerance: 7 }, 1, Format::Snap),
-        ),
-        (
-            "sync tree --format tsv --source 012 --rounds 5",
-            run(ProgramName::Tree { source: 12 }, 5, Format::Tsv),
+            "sync rank --tolerance 007",
+            sync(ProgramName::Rank { tolerance: 7 }),
         ),
     ];
-    for (text, job) in rows {
+    for (text, run) in rows {
         let words = words_of(rt.alloc(), text)?;
-        assert_eq!(rt; read_words(&words), Ok(job), "{text}");
+        assert_eq!(rt; read_words(&words), Ok(Job::Run(run)), "{text}");
     }
     Ok(())
 }
@@ -104,15 +129,35 @@ fn words_that_name_no_job_have_their_place(rt: HostRuntime) -> Result<(), Fail> 
         ("components", 1),
         ("syn", 1),
         ("Sync components", 1),
-        ("async components", 1),
         ("sync", 2),
+        ("async", 2),
         ("sync  components", 2),
         ("sync flow", 2),
+        ("sync async", 2),
         ("sync --format snap components", 2),
         ("sync components rank", 3),
         ("sync components ", 3),
-        ("sync components --workers 2", 3),
+        ("sync components --colours 2", 3),
         ("sync components --format=tsv", 3),
+        ("sync sssp", 3),
+        ("sync tree", 3),
+        ("sync tree --rounds 5 --format tsv", 7),
+        ("async components", 3),
+        ("async sssp", 3),
+        ("async sssp --serial", 4),
+        ("async sssp --source 1", 5),
+        ("async components --fuel 1", 5),
+    ];
+    for (text, place) in rows {
+        let words = words_of(rt.alloc(), text)?;
+        assert_eq!(rt; read_words(&words), Err(Usage { place }), "{text}");
+    }
+    Ok(())
+}
+
+#[test]
+fn a_value_has_to_be_one_of_its_option(rt: HostRuntime) -> Result<(), Fail> {
+    let rows = [
         ("sync components --format", 4),
         ("sync components --format csv", 4),
         ("sync components --format ", 4),
@@ -123,18 +168,34 @@ fn words_that_name_no_job_have_their_place(rt: HostRuntime) -> Result<(), Fail> 
         ("sync components --rounds +1", 4),
         ("sync components --rounds 1.0", 4),
         ("sync components --rounds ", 4),
+        ("async components --fuel 4294967296 --serial", 4),
+        ("async components --fuel --serial", 4),
+        ("sync rank --tolerance 18446744073709551616", 4),
+        ("sync sssp --source", 4),
+        ("sync sssp --source 4294967296", 4),
+        ("sync sssp --source x --rounds 1", 4),
+    ];
+    for (text, place) in rows {
+        let words = words_of(rt.alloc(), text)?;
+        assert_eq!(rt; read_words(&words), Err(Usage { place }), "{text}");
+    }
+    Ok(())
+}
+
+#[test]
+fn an_option_stands_once_where_it_may(rt: HostRuntime) -> Result<(), Fail> {
+    let rows = [
         ("sync components --source 1", 3),
         ("sync colour --source 1", 3),
         ("sync rank --source 1", 3),
         ("sync components --tolerance 1", 3),
+        ("sync components --serial", 3),
+        ("sync components --fuel 1", 3),
+        ("async components --rounds 1 --serial", 3),
+        ("async components --serial 1", 4),
+        ("async components --serial --serial", 4),
+        ("async components --fuel 1 --serial --fuel 1", 6),
         ("sync sssp --source 1 --tolerance 1", 5),
-        ("sync rank --tolerance 18446744073709551616", 4),
-        ("sync sssp", 3),
-        ("sync tree", 3),
-        ("sync tree --rounds 5 --format tsv", 7),
-        ("sync sssp --source", 4),
-        ("sync sssp --source 4294967296", 4),
-        ("sync sssp --source x --rounds 1", 4),
         ("sync sssp --source 1 --source 1", 5),
         ("sync components --rounds 1 --format adj --rounds 2", 7),
         ("sync rank --tolerance 0 --rounds 0 --format snap extra", 9),
@@ -162,12 +223,31 @@ fn thirty_words_go_wrong_at_the_first_word_too_many(rt: HostRuntime) -> Result<(
     Ok(())
 }
 
-fn run(program: ProgramName, rounds: u32, format: Format) -> Job {
-    Job::Run(RunJob {
-        engine: Engine::Sync { rounds },
+/// What `sync` runs where no option stands.
+fn sync(program: ProgramName) -> RunJob {
+    RunJob {
+        engine: Engine::Sync { rounds: 1_000_000 },
         program,
-        format,
-    })
+        format: Format::Snap,
+    }
+}
+
+/// What `async` runs where only `--serial` stands.
+fn serial(program: ProgramName) -> RunJob {
+    RunJob {
+        engine: Engine::Serial {
+            fuel: 1_000_000_000,
+        },
+        ..sync(program)
+    }
+}
+
+fn paths_from_the_last_id() -> RunJob {
+    RunJob {
+        engine: Engine::Sync { rounds: 3 },
+        format: Format::Adj,
+        ..sync(ProgramName::Sssp { source: 4294967295 })
+    }
 }
 
 /// The words between spaces, of which two side by side have an empty word between them.
