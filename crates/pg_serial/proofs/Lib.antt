@@ -1,0 +1,11 @@
+pub mod Words
+pub mod Summaries
+pub mod Noting
+pub mod Touching
+pub mod Signals
+pub mod Journals
+pub mod Queues
+pub mod Serials
+pub mod Waiting
+pub mod WordsSent
+pub mod Running

@@ -1,0 +1,5 @@
+pub mod Sending
+pub mod Journals
+pub mod Serial
+pub mod Bits
+pub mod Queue

@@ -1,0 +1,15 @@
+//! Serial executions: one vertex at a time gathers, applies and scatters.
+#![tactic(auto)]
+
+mod bits;
+mod entries;
+mod execution;
+mod replaying;
+mod scatter;
+mod serial;
+mod signal_set;
+mod writing;
+
+pub use execution::execute;
+pub use replaying::{Replayed, replay};
+pub use serial::run_serial;
