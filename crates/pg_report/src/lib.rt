@@ -1,0 +1,16 @@
+//! The report of a run: its text, and its lines both ways.
+#![tactic(auto)]
+
+mod fronts;
+pub mod laws;
+mod line;
+mod put;
+mod read;
+mod write;
+
+pub use line::{LastLine, ReportLine};
+pub use read::read_report_line;
+pub use write::{write_head, write_tail};
+
+#[cfg(test)]
+mod tests;
