@@ -2,13 +2,12 @@
 use Rattle.std.proofs.Common.{◌≡◌, ℕ, ◌+◌, [], ◌∷◌, refl, ap, ◌∙◌, false}
 use Rattle.std.specs.Prelude.{Option, Some, None}
 use Rattle.pg_law.specs.Values.{one}
-use Rattle.pg_law.specs.Configuration.{Configuration, is_quiet}
+use Rattle.pg_law.specs.Configuration.{Configuration, is_quiet, start_state}
 use Rattle.pg_law.specs.Round.{round}
 use Rattle.pg_law.specs.Rounds.{Run, rounds, after_round}
 use Rattle.pg_law.proofs.Repeating.{rounds_stop, rounds_go}
 use Rattle.pg_paths.specs.Components.{components}
-use Rattle.pg_main.specs.Jobs.{job_run}
-use Rattle.pg_main.specs.Rows.{plain_job, path_graph}
+use Rattle.pg_main.specs.Rows.{path_graph}
 
 abbrev at : ℕ → ℕ → ℕ → ℕ → Option ℕ → Option ℕ → Option ℕ → Option ℕ → Configuration
 at a b c d m n o p = record { values = one a ∷ one b ∷ one c ∷ one d ∷ []; edges = 0 ∷ 0 ∷ 0 ∷ []; messages = m ∷ n ∷ o ∷ p ∷ [] }
@@ -42,5 +41,5 @@ step : (s next : Configuration) (n : ℕ) (run : Run) → is_quiet path_graph s 
     → rounds components path_graph s (n + 1) ≡ after_round components path_graph s run
 step s next n run busy goes rest = rounds_go components path_graph s (n + 1) n busy refl ∙ ap (λ (t : Configuration). after_round components path_graph s (rounds components path_graph t n)) goes ∙ ap (after_round components path_graph s) rest
 
-pub path_run : job_run plain_job path_graph ≡ record { state = after_three; rounds = 3; executions = 7; gathers = 10 }
+pub path_run : rounds components path_graph (start_state components path_graph) 1000000 ≡ record { state = after_three; rounds = 3; executions = 7; gathers = 10 }
 path_run = step start after_one 999999 _ refl first (step after_one after_two 999998 _ refl second (step after_two after_three 999997 _ refl third (rounds_stop components path_graph after_three 999997 refl)))

@@ -12,7 +12,11 @@ edge src dst = record { src = src; dst = dst; weight = 1 }
 
 -- components of a SNAP text, in a million rounds at most
 abbrev pub plain_job : RunJob
-plain_job = record { engine = Sync 1000000; program = Components; format = Snap }
+plain_job = record {
+  engine = Sync 1000000;
+  program = Components;
+  format = Snap;
+}
 
 -- a path of four vertices
 abbrev pub path_text : List ℕ

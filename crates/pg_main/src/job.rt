@@ -1,4 +1,4 @@
-//! A job that was named: a text is read, rounds are run on its graph, and their report is written.
+//! A job that was named: a text is read, a program is run on its graph, and the report is written.
 ghost use Rattle.std.specs.Prelude.{◌≡◌, ◌⊎◌, ◌<◌, true, [], length, Some, None, IsErrOf, IfSome, IfOk, IfErr, OnOk, OnErr};
 ghost use Rattle.pg_base.specs.Faults.{HasRisen};
 ghost use Rattle.pg_base.specs.Limits.{IsWithinStandard};
@@ -8,29 +8,20 @@ ghost use Rattle.pg_input.specs.declared.error.InputError.{InputError as Unread}
 ghost use Rattle.pg_input.specs.declared.error.InputError.TheVariants.{ReadFault};
 ghost use Rattle.pg_law.specs.declared.values.End.TheVariants.{Quiescent};
 ghost use Rattle.pg_main.specs.Counters.{ArePresent};
-ghost use Rattle.pg_main.specs.Jobs.{IsReported, IsReportedInPart, IsMeant, IsAbsent, rounds_limit};
+ghost use Rattle.pg_main.specs.Jobs.{IsReported, IsReportedInPart, IsMeant, IsAbsent};
 
 use crate::laws::what_quiescence_means;
+use crate::programs::report_named;
 use crate::refusal::Refusal;
-use crate::rounds::report_named;
 use crate::source::find_source;
 use pg_base::{Limits, Sink, Source};
 use pg_input::read_graph;
 use pg_law::{End, Steps};
-use pg_words::{Engine, RunJob};
+use pg_words::RunJob;
 use std::alloc::Global;
 use std::sync::ledger::Ledger;
 
-/// How many rounds are made at most.
-fn rounds_of(engine: Engine) -> u32
-    ensures { result ≡ rounds_limit engine }
-{
-    match engine {
-        Engine::Sync { rounds } => rounds,
-    }
-}
-
-/// Reads a text, runs rounds of a program on its graph, and writes their report.
+/// Reads a text, runs a program on its graph, and writes the report.
 pub fn run_job<S: Source, K: Sink, L: Ledger>(
     alloc: Global,
     job: RunJob,
@@ -62,21 +53,16 @@ pub fn run_job<S: Source, K: Sink, L: Ledger>(
         K.written out.new ≡ K.written out.old }
     ensures front { IsErrOf result Refusal.WriteFault → IfSome (S.left input.old)
         (IsReportedInPart limits (K.written out.old) (K.written out.new) job) }
-    ensures memory { IsErrOf result Refusal.Memory → K.written out.new ≡ K.written out.old }
+    ensures memory { IsErrOf result Refusal.Memory → IfSome (S.left input.old)
+        (λ text. (K.written out.new ≡ K.written out.old)
+        ⊎ IsReportedInPart limits (K.written out.old) (K.written out.new) job text) }
     ensures present { ArePresent steps.new }
 {
     what_quiescence_means();
     let graph = read_graph(alloc, job.format, limits, input)?;
     let _ = graph.vertices();
     find_source(job.program, &graph)?;
-    let end = report_named(
-        alloc,
-        job.program,
-        rounds_of(job.engine),
-        &graph,
-        out,
-        steps,
-    )?;
+    let end = report_named(alloc, job.program, job.engine, &graph, out, steps)?;
     out.finish()?;
     Ok(end)
 }

@@ -5,10 +5,9 @@ ghost use Rattle.pg_graph.specs.Multigraph.{multigraph};
 ghost use Rattle.pg_readers.specs.declared.line.Format.TheVariants.{Snap};
 ghost use Rattle.pg_input.specs.Reading.{IsGraphOfText, first_event};
 ghost use Rattle.pg_law.specs.declared.values.End.TheVariants.{Quiescent};
-ghost use Rattle.pg_law.specs.Rounds.{end_of};
 ghost use Rattle.pg_graph.specs.Multigraph.{Multigraph, IsMultigraph};
 ghost use Rattle.pg_words.specs.declared.job.RunJob.{RunJob};
-ghost use Rattle.pg_main.specs.Jobs.{job_run, job_text};
+ghost use Rattle.pg_main.specs.Jobs.{job_outcome, job_text};
 ghost use Rattle.pg_main.specs.Meanings.{Means};
 ghost use Rattle.pg_main.specs.Rows.{plain_job, path_text, path_graph, path_report, empty_report};
 
@@ -33,11 +32,11 @@ pub fn the_empty_text()
     ensures report { job_text plain_job (multigraph [] [] 0) ≡ empty_report }
 {}
 
-/// Where the rounds of a job leave nothing signalled, its values mean what the program is for.
+/// Where a job leaves nothing signalled, its values mean what the program is for.
 pub fn what_quiescence_means()
     ensures { (job : RunJob) (g : Multigraph) → IsMultigraph g
-        → end_of g (job_run job g).state ≡ Quiescent
-        → Means job.program g (job_run job g).state.values }
+        → (job_outcome job g).last.end ≡ Quiescent
+        → Means job.program g (job_outcome job g).state.values }
 {
     components_find_least_ids();
     colourings_are_proper();

@@ -1,7 +1,7 @@
 //! Whole runs of each program, with reports that were worked out apart from the engine.
 
 use crate::status::Status;
-use crate::tests::{calm, outcome_of};
+use crate::tests::{PATH, calm, outcome_of};
 use std::test::Fail;
 
 /// Words, a text, how the run ends, and its report.
@@ -106,6 +106,59 @@ fn programs_have_their_reports(rt: HostRuntime) -> Result<(), Fail> {
         assert_eq!(rt; outcome.out.bytes(), report.as_bytes(), "{report}");
         assert!(rt; outcome.out.is_finished(), "{report}");
         assert!(rt; outcome.err.bytes().is_empty(), "{report}");
+    }
+    Ok(())
+}
+
+#[test]
+fn serial_runs_have_their_reports(rt: HostRuntime) -> Result<(), Fail> {
+    let whole =
+        "# pgreport 1 async components\n# vertices 4 edges 3 loops 0\n@1\t1\n@2\t1\n@3\t1\n@4\t1\n1\t1\n2\t1\n3\t1\n4\t1\n# quiescent executions 4 gathers 6\n";
+    let rows: [Row<'_>; 6] = [
+        (
+            &["async", "components", "--serial"],
+            PATH,
+            Status::Quiescent,
+            whole,
+        ),
+        (
+            &["async", "components", "--fuel", "0", "--serial"],
+            PATH,
+            Status::Spent,
+            "# pgreport 1 async components\n# vertices 4 edges 3 loops 0\n1\t1\n2\t2\n3\t3\n4\t4\n?1\t1\n?2\t2\n?3\t3\n?4\t4\n# spent executions 0 gathers 0\n",
+        ),
+        (
+            &["async", "components", "--serial", "--fuel", "3"],
+            PATH,
+            Status::Spent,
+            "# pgreport 1 async components\n# vertices 4 edges 3 loops 0\n@1\t1\n@2\t1\n@3\t1\n1\t1\n2\t1\n3\t1\n4\t4\n?4\t1\n# spent executions 3 gathers 5\n",
+        ),
+        (
+            &["async", "components", "--serial", "--fuel", "4"],
+            PATH,
+            Status::Quiescent,
+            whole,
+        ),
+        (
+            &["async", "colour", "--serial"],
+            "1 2\n",
+            Status::Quiescent,
+            "# pgreport 1 async colour\n# vertices 2 edges 1 loops 0\n@1\t1\n@2\t0\n1\t1\n2\t0\n# quiescent executions 2 gathers 2\n",
+        ),
+        (
+            &[
+                "async", "tree", "--format", "tsv", "--source", "1", "--serial",
+            ],
+            DIAMOND,
+            Status::Quiescent,
+            "# pgreport 1 async tree 1\n# vertices 4 edges 4 loops 0\n@1\t0\t1\n@2\t1\t1\n@3\t1\t1\n@4\t2\t2\n1\t0\t1\n2\t1\t1\n3\t1\t1\n4\t2\t2\n# quiescent executions 4 gathers 4\n",
+        ),
+    ];
+    for (words, text, status, report) in rows {
+        let outcome = outcome_of(&rt, rt.alloc(), calm(words, text))?;
+        assert_eq!(rt; outcome.status, status, "{report}");
+        assert_eq!(rt; outcome.out.bytes(), report.as_bytes(), "{report}");
+        assert!(rt; outcome.out.is_finished(), "{report}");
     }
     Ok(())
 }

@@ -2,6 +2,7 @@
 
 use pg_base::Failed;
 use pg_input::InputError;
+use pg_law::AsyncError;
 use std::alloc::AllocError;
 
 /// Why a job wasn't done.
@@ -46,5 +47,19 @@ impl From<Failed> for Refusal {
 
     fn from(_: Failed) -> Self {
         Refusal::WriteFault
+    }
+}
+
+impl From<AsyncError> for Refusal {
+    ghost use Rattle.std.specs.Prelude.{◌≡◌};
+    ghost use Rattle.pg_main.specs.Answers.{refusal_of};
+
+    ghost from_gives = { λ error e. e ≡ refusal_of error };
+
+    fn from(error: AsyncError) -> Self {
+        match error {
+            AsyncError::WriteFault => Refusal::WriteFault,
+            AsyncError::Memory => Refusal::Memory,
+        }
     }
 }

@@ -1,80 +1,81 @@
-//! The rounds of a program and their report.
-ghost use Rattle.std.specs.Prelude.{◌≡◌, ◌<◌, ◌≤◌, length, IsErrOf, IfOk, OnOk};
-ghost use Rattle.std.specs.Io.KnownBytes.{append_known};
-ghost use Rattle.pg_base.specs.Faults.{HasRisen};
-ghost use Rattle.pg_base.specs.Writing.{SendsFront};
+//! Rounds of a program, and their report.
+ghost use Rattle.std.specs.Prelude.{◌≡◌, ◌+◌, ◌<◌, [], length, IfOk};
 ghost use Rattle.pg_graph.specs.Multigraph.{Multigraph};
-ghost use Rattle.pg_input.specs.declared.error.InputError.{InputError as Unread};
-ghost use Rattle.pg_law.specs.Rounds.{end_of};
+ghost use Rattle.pg_words.specs.declared.job.Engine.{Engine as Machine};
+ghost use Rattle.pg_words.specs.declared.job.Engine.TheVariants.{Sync};
+ghost use Rattle.pg_main.specs.Answers.{Reports};
 ghost use Rattle.pg_main.specs.Counters.{ArePresent, FirstTakes};
-ghost use Rattle.pg_main.specs.Jobs.{run_of, named_run, named_text};
+ghost use Rattle.pg_main.specs.Jobs.{outcome_with, outcome_by, outcome_of};
 
-use crate::compute::compute;
 use crate::refusal::Refusal;
-use crate::report::write_report;
 use pg_base::Sink;
-use pg_colour::Colour;
 use pg_graph::Graph;
-use pg_law::{End, Steps, VertexProgram};
-use pg_paths::{Components, Sssp, Tree};
-use pg_rank::PageRank;
-use pg_words::ProgramName;
-use std::alloc::Global;
+use pg_law::{End, State, Steps, VertexProgram};
+use pg_report::{LastLine, write_head, write_tail};
+use pg_rounds::run_rounds;
+use pg_words::{EngineName, ProgramName};
+use std::alloc::{AllocError, Global};
 use std::sync::ledger::Ledger;
 
-/// Runs rounds of the program with this name, and writes their report.
-pub fn report_named<K: Sink, L: Ledger>(
+/// What rounds left, and how they ended.
+#[derive(Drop)]
+struct Ended {
+    pub state: State,
+    pub last: LastLine,
+}
+
+/// Rounds of a program from its start, at most `limit`.
+fn rounds<P: VertexProgram, L: Ledger>(
     alloc: Global,
-    name: ProgramName,
-    limit: u32,
+    program: &P,
     graph: &Graph,
-    out: &mut K,
+    limit: u32,
+    steps: &mut Steps<L>,
+) -> Result<Ended, AllocError>
+    ensures outcome { IfOk result (λ ended. outcome_with [] ended.state ended.last ≡
+        outcome_by (P.meaning program.now) graph.now (Sync limit)) }
+    ensures values { IfOk result (λ ended. length ended.state.values ≡ length graph.now.ids) }
+    ensures messages { IfOk result (λ ended. length ended.state.messages ≡ length graph.now.ids) }
+    ensures counted { IfOk result (λ ended. steps.new ≡ steps.old + ended.last.gathers) }
+{
+    let mut state = State::start(alloc, program, graph)?;
+    let end = run_rounds(alloc, program, graph, &mut state, limit, steps)?;
+    Ok(Ended {
+        state,
+        last: LastLine {
+            end: end.end,
+            rounds: Some(end.rounds),
+            executions: end.executions,
+            gathers: end.gathers,
+        },
+    })
+}
+
+/// The same with the first of the workers' counters, which takes the gathers.
+fn counted_rounds<P: VertexProgram, L: Ledger>(
+    alloc: Global,
+    program: &P,
+    graph: &Graph,
+    limit: u32,
     steps: &mut [Option<Steps<L>>],
-) -> Result<End, Refusal>
+) -> Result<Ended, AllocError>
     requires some { 0 < length steps.old }
     requires present { ArePresent steps.old }
-    ensures end { IfOk result (λ end. end_of graph.now (named_run name limit graph.now).state ≡ end) }
-    ensures whole { OnOk result
-        (K.written out.new ≡ append_known (K.written out.old) (named_text name limit graph.now)) }
-    ensures counted { OnOk result
-        (FirstTakes steps.old steps.new (named_run name limit graph.now).gathers) }
-    ensures read { (error : Unread) → IsErrOf result (Refusal.Input error) → ⊥ }
-    ensures source { (id : _) → IsErrOf result (Refusal.NoVertex id) → ⊥ }
-    ensures write_fault { IsErrOf result Refusal.WriteFault →
-        HasRisen (K.faults out.old) (K.faults out.new) }
-    ensures front { IsErrOf result Refusal.WriteFault →
-        SendsFront (K.written out.old) (K.written out.new) (named_text name limit graph.now) }
-    ensures memory { IsErrOf result Refusal.Memory → K.written out.new ≡ K.written out.old }
-    ensures later { K.faults out.old ≤ K.faults out.new }
+    ensures outcome { IfOk result (λ ended. outcome_with [] ended.state ended.last ≡
+        outcome_by (P.meaning program.now) graph.now (Sync limit)) }
+    ensures values { IfOk result (λ ended. length ended.state.values ≡ length graph.now.ids) }
+    ensures messages { IfOk result (λ ended. length ended.state.messages ≡ length graph.now.ids) }
+    ensures counted { IfOk result (λ ended. FirstTakes steps.old steps.new ended.last.gathers) }
     ensures present { ArePresent steps.new }
 {
-    match name {
-        ProgramName::Components => {
-            report_rounds(alloc, &Components::new(), name, limit, graph, out, steps)
-        }
-        ProgramName::Colour => report_rounds(alloc, &Colour::new(), name, limit, graph, out, steps),
-        ProgramName::Sssp { source } => {
-            report_rounds(alloc, &Sssp::new(source), name, limit, graph, out, steps)
-        }
-        ProgramName::Rank { tolerance } => {
-            report_rounds(
-                alloc,
-                &PageRank::new(tolerance),
-                name,
-                limit,
-                graph,
-                out,
-                steps,
-            )
-        }
-        ProgramName::Tree { source } => {
-            report_rounds(alloc, &Tree::new(source), name, limit, graph, out, steps)
-        }
-    }
+    let mut counter = steps[0].take().unwrap();
+    let ended = rounds(alloc, program, graph, limit, &mut counter);
+    steps[0] = Some(counter);
+    ended
 }
 
 /// Runs rounds of a program, which has this name, and writes their report.
-fn report_rounds<P: VertexProgram, K: Sink, L: Ledger>(
+pub fn report_rounds<P: VertexProgram, K: Sink, L: Ledger>(
     alloc: Global,
     program: &P,
     name: ProgramName,
@@ -83,25 +84,15 @@ fn report_rounds<P: VertexProgram, K: Sink, L: Ledger>(
     out: &mut K,
     steps: &mut [Option<Steps<L>>],
 ) -> Result<End, Refusal>
-    requires named { (g : Multigraph) → run_of (P.meaning program.now) limit g ≡ named_run name limit g }
+    requires named { (engine : Machine) (g : Multigraph) →
+        outcome_by (P.meaning program.now) g engine ≡ outcome_of name engine g }
     requires some { 0 < length steps.old }
     requires present { ArePresent steps.old }
-    ensures end { IfOk result (λ end. end_of graph.now (named_run name limit graph.now).state ≡ end) }
-    ensures whole { OnOk result
-        (K.written out.new ≡ append_known (K.written out.old) (named_text name limit graph.now)) }
-    ensures counted { OnOk result
-        (FirstTakes steps.old steps.new (named_run name limit graph.now).gathers) }
-    ensures read { (error : Unread) → IsErrOf result (Refusal.Input error) → ⊥ }
-    ensures source { (id : _) → IsErrOf result (Refusal.NoVertex id) → ⊥ }
-    ensures write_fault { IsErrOf result Refusal.WriteFault →
-        HasRisen (K.faults out.old) (K.faults out.new) }
-    ensures front { IsErrOf result Refusal.WriteFault →
-        SendsFront (K.written out.old) (K.written out.new) (named_text name limit graph.now) }
-    ensures memory { IsErrOf result Refusal.Memory → K.written out.new ≡ K.written out.old }
-    ensures later { K.faults out.old ≤ K.faults out.new }
-    ensures present { ArePresent steps.new }
+    ensures { Reports name (Sync limit) graph.now (K.written out.old) (K.written out.new)
+        (K.faults out.old) (K.faults out.new) steps.old steps.new result }
 {
-    let run = compute(alloc, program, graph, limit, steps)?;
-    write_report(out, name, graph, &run.state, run.end)?;
-    Ok(run.end.end)
+    let ended = counted_rounds(alloc, program, graph, limit, steps)?;
+    write_head(out, EngineName::Sync, name, graph)?;
+    write_tail(out, name, graph, &ended.state, ended.last)?;
+    Ok(ended.last.end)
 }

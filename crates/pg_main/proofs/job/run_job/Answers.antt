@@ -25,9 +25,10 @@ returns-clause-reported g c =
       accepted = accepted;
       graph_of = graph_of;
       source = c.in_ok-find_source.ensures.there;
-      ended = (rw c.rounds_of.ensures at c.in_ok-end.ensures.end);
-      appended = c.finish.ensures.kept ∙ (rw c.rounds_of.ensures at c.in_ok-end.ensures.whole);
-      counted = (rw c.rounds_of.ensures at c.in_ok-end.ensures.counted);
+      ended = c.in_ok-end.ensures.end;
+      journal = c.in_ok-end.ensures.journal;
+      appended = c.finish.ensures.kept ∙ c.in_ok-end.ensures.whole;
+      counted = c.in_ok-end.ensures.counted;
     }) read.accepted read.graph
 
 pub returns-clause-meant : goal.returns-clause-meant
@@ -43,8 +44,8 @@ returns-clause-meant g c =
     (g.S.Source.left c.args.input.now) (λ text accepted graph_of. record {
       graph = graph;
       graph_of = graph_of;
-      appended = c.finish.ensures.kept ∙ (rw c.rounds_of.ensures at c.in_ok-end.ensures.whole);
-      meaning = c.what_quiescence_means.ensures job graph c.vertices.ensures.graph ((rw c.rounds_of.ensures at c.in_ok-end.ensures.end) ∙ quiescent);
+      appended = c.finish.ensures.kept ∙ c.in_ok-end.ensures.whole;
+      meaning = c.what_quiescence_means.ensures job graph c.vertices.ensures.graph (c.in_ok-end.ensures.end ∙ quiescent);
     }) read.accepted read.graph
 
 pub returns-in_err-end-clause-front : goal.returns-in_err-end-clause-front
@@ -63,7 +64,7 @@ returns-in_err-end-clause-front g c =
       accepted = accepted;
       graph_of = graph_of;
       source = c.in_ok-find_source.ensures.there;
-      front = (rw c.rounds_of.ensures at c.in_err-end.ensures.front) (ap (λ (r : Refusal). Err r) (sym p.2) ∙ is);
+      front = c.in_err-end.ensures.front;
     }) read.accepted read.graph)
 
 pub returns-in_err-finish-clause-front : goal.returns-in_err-finish-clause-front
@@ -81,5 +82,5 @@ returns-in_err-finish-clause-front g c =
       accepted = accepted;
       graph_of = graph_of;
       source = c.in_ok-find_source.ensures.there;
-      front = whole_front (c.finish.ensures.kept ∙ (rw c.rounds_of.ensures at c.in_ok-end.ensures.whole));
+      front = whole_front (c.finish.ensures.kept ∙ c.in_ok-end.ensures.whole);
     }) read.accepted read.graph

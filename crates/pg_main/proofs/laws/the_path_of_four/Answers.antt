@@ -1,10 +1,11 @@
 use Rattle.std.proofs.Common.{ap, refl, rules}
 use Rattle.std.specs.Fmt.{digits}
-use Rattle.pg_law.specs.Rounds.{Run, end_of}
+use Rattle.pg_law.specs.Rounds.{Run}
 use Rattle.std.proofs.lemmas.List.Sorted.{IsPermutation-refl}
 use Rattle.pg_readers.specs.Tokens.{is_blank}
 use Rattle.pg_words.specs.declared.job.ProgramName.TheVariants.{Components}
-use Rattle.pg_main.specs.Report.{report_of}
+use Rattle.pg_words.specs.declared.job.Engine.TheVariants.{Sync}
+use Rattle.pg_main.specs.Jobs.{text_of, after_rounds}
 use Rattle.pg_main.specs.Rows.{path_graph}
 use Rattle.pg_main.proofs.Rows.{path_run}
 use Rattle.pg_main.proofs.laws.the_path_of_four.Goals as goal
@@ -19,4 +20,4 @@ returns-clause-graph c = record { graph = search rules; ids = IsPermutation-refl
 
 pub returns-clause-report : goal.returns-clause-report
 unfolding digits
-returns-clause-report c = ap (λ (r : Run). report_of Components path_graph (end_of path_graph r.state) r) path_run
+returns-clause-report c = ap (λ (r : Run). text_of Components (Sync 1000000) path_graph (after_rounds path_graph r)) path_run

@@ -1,32 +1,40 @@
-use Rattle.std.proofs.Common.{◌≡◌, ◌∙◌, ℕ, List, ap, subst}
-use Rattle.std.specs.Io.KnownBytes.{append_known}
-use Rattle.pg_base.specs.Writing.{SendsFront}
-use Rattle.pg_main.specs.Counters.{FirstTakes}
-use Rattle.pg_main.proofs.Reports.{named_end, named_gathers, named_report}
+use Rattle.std.proofs.Common.{[], refl, sym, ◌∙◌, arith}
+use Rattle.std.proofs.lemmas.Result.{err_from_is_err_and}
+use Rattle.pg_base.proofs.Sending.{append_known-nil}
+use Rattle.pg_words.specs.declared.job.Engine.TheVariants.{Sync}
+use Rattle.pg_main.specs.Answers.{Reports}
+use Rattle.pg_main.proofs.Reporting.{by_error, no_memory, failed, nothing_sent, head_front, journal_sent, tail_front, tail_whole, done, no_journal}
 use Rattle.pg_main.proofs.rounds.report_rounds.Goals as goal
 
-pub returns-in_err-write_report-clause-front : goal.returns-in_err-write_report-clause-front
-returns-in_err-write_report-clause-front g c =
-    let graph = c.args.graph.now in
-    let is = c.in_ok-run.ensures.run ∙ c.requires.named graph in
-    let P : List ℕ → Type 0 = λ text. SendsFront (g.K.Sink.written c.args.out.now) (g.K.Sink.written c.write_report.new.sink) text in
-    λ _. subst P (named_report c.args.name c.args.limit graph c.in_ok-run.run'.state c.in_ok-run.run'.end is c.in_ok-run.ensures.end) c.in_err-write_report.ensures.front
+pub returns-in_err-ended : goal.returns-in_err-ended
+returns-in_err-ended g c =
+    by_error (Reports c.args.name (Sync c.args.limit) c.args.graph.now _ _ _ _ _ _) c.from_residual.result (err_from_is_err_and c.from_residual.result c.from_residual.ensures.1)
+    (no_memory _ _ _ _ _ _ (nothing_sent c.args.name (Sync c.args.limit) c.args.graph.now (g.K.Sink.written c.args.out.now) (g.K.Sink.faults c.args.out.now) c.args.steps.now) (omega arith) c.counted_rounds.ensures.present)
 
-pub returns-clause-end : goal.returns-clause-end
-returns-clause-end g c =
-    let graph = c.args.graph.now in
-    let is = c.in_ok-run.ensures.run ∙ c.requires.named graph in
-    named_end c.args.name c.args.limit graph c.in_ok-run.run'.state c.in_ok-run.run'.end is c.in_ok-run.ensures.end
+pub returns-in_err-write_head : goal.returns-in_err-write_head
+returns-in_err-write_head g c =
+    let is = c.in_ok-ended.ensures.outcome ∙ c.requires.named (Sync c.args.limit) c.args.graph.now in
+    by_error (Reports c.args.name (Sync c.args.limit) c.args.graph.now _ _ _ _ _ _) c.from_residual-in_err-write_head.result (err_from_is_err_and c.from_residual-in_err-write_head.result c.from_residual-in_err-write_head.ensures.1)
+    (failed _ _ _ _ _ _ (head_front c.args.name (Sync c.args.limit) c.args.graph.now (g.K.Sink.written c.args.out.now) (g.K.Sink.faults c.args.out.now) c.args.steps.now [] c.in_ok-ended.ended.state c.in_ok-ended.ended.last is
+    c.in_err-write_head.ensures.front) (c.in_err-write_head.ensures.cause refl) c.write_head.ensures.later c.counted_rounds.ensures.present)
 
-pub returns-clause-whole : goal.returns-clause-whole
-returns-clause-whole g c =
-    let graph = c.args.graph.now in
-    let is = c.in_ok-run.ensures.run ∙ c.requires.named graph in
-    c.in_ok-write_report.ensures.whole ∙ ap (append_known (g.K.Sink.written c.args.out.now)) (named_report c.args.name c.args.limit graph c.in_ok-run.run'.state c.in_ok-run.run'.end is c.in_ok-run.ensures.end)
+pub returns-in_err-write_tail : goal.returns-in_err-write_tail
+returns-in_err-write_tail g c =
+    let is = c.in_ok-ended.ensures.outcome ∙ c.requires.named (Sync c.args.limit) c.args.graph.now in
+    let head = journal_sent c.args.name (Sync c.args.limit) c.args.graph.now (g.K.Sink.written c.args.out.now) (g.K.Sink.faults c.args.out.now) c.args.steps.now [] c.in_ok-ended.ended.state c.in_ok-ended.ended.last is
+    c.in_ok-write_head.ensures.whole (sym (append_known-nil _)) in
+    by_error (Reports c.args.name (Sync c.args.limit) c.args.graph.now _ _ _ _ _ _) c.from_residual-in_err-write_tail.result (err_from_is_err_and c.from_residual-in_err-write_tail.result c.from_residual-in_err-write_tail.ensures.1)
+    (failed _ _ _ _ _ _ (tail_front c.args.name (Sync c.args.limit) c.args.graph.now (g.K.Sink.written c.args.out.now) (g.K.Sink.faults c.args.out.now) c.args.steps.now [] c.in_ok-ended.ended.state c.in_ok-ended.ended.last is
+    head c.write_head.ensures.later _ c.in_err-write_tail.ensures)
+    (omega (arith, c.write_head.ensures.later, c.in_err-write_tail.ensures.cause refl)) (omega (arith, c.write_head.ensures.later, c.write_tail.ensures.later)) c.counted_rounds.ensures.present)
 
-pub returns-clause-counted : goal.returns-clause-counted
-returns-clause-counted g c =
-    let graph = c.args.graph.now in
-    let is = c.in_ok-run.ensures.run ∙ c.requires.named graph in
-    let Takes : ℕ → Type 0 = λ n. FirstTakes c.args.steps.now c.compute.new.steps n in
-    subst Takes (named_gathers c.args.name c.args.limit graph c.in_ok-run.run'.state c.in_ok-run.run'.end is) c.in_ok-run.ensures.counted
+pub returns : goal.returns
+returns g c =
+    let is = c.in_ok-ended.ensures.outcome ∙ c.requires.named (Sync c.args.limit) c.args.graph.now in
+    let head = journal_sent c.args.name (Sync c.args.limit) c.args.graph.now (g.K.Sink.written c.args.out.now) (g.K.Sink.faults c.args.out.now) c.args.steps.now [] c.in_ok-ended.ended.state c.in_ok-ended.ended.last is
+    c.in_ok-write_head.ensures.whole (sym (append_known-nil _)) in
+    done c.args.name (Sync c.args.limit) c.args.graph.now (g.K.Sink.written c.args.out.now) (g.K.Sink.faults c.args.out.now) c.args.steps.now [] c.in_ok-ended.ended.state c.in_ok-ended.ended.last is
+    (no_journal c.args.name c.args.limit c.args.graph.now)
+    (tail_whole c.args.name (Sync c.args.limit) c.args.graph.now (g.K.Sink.written c.args.out.now) (g.K.Sink.faults c.args.out.now) c.args.steps.now [] c.in_ok-ended.ended.state c.in_ok-ended.ended.last is
+    head c.write_head.ensures.later _ c.in_ok-write_tail.ensures)
+    c.in_ok-ended.ensures.counted (omega (arith, c.write_head.ensures.later, c.write_tail.ensures.later)) c.counted_rounds.ensures.present

@@ -1,0 +1,42 @@
+-- What writing the report of a run does to the output and to the counters, and what it answers.
+use Rattle.std.specs.Prelude.{◌≡◌, ℕ, ◌≤◌, List, Option, Result, IfOk, IfErr, OnOk, OnErr, IsErrOf}
+use Rattle.std.specs.Io.KnownBytes.{append_known}
+use Rattle.pg_base.specs.Faults.{HasRisen}
+use Rattle.pg_base.specs.Writing.{SendsFront}
+use Rattle.pg_graph.specs.Multigraph.{Multigraph}
+use Rattle.pg_law.specs.declared.values.End.{End}
+use Rattle.pg_law.specs.declared.async_end.AsyncError.{AsyncError}
+use Rattle.pg_law.specs.declared.async_end.AsyncError.TheVariants as async
+use Rattle.pg_words.specs.declared.job.Engine.{Engine}
+use Rattle.pg_words.specs.declared.job.ProgramName.{ProgramName}
+use Rattle.pg_main.specs.Counters.{ArePresent, FirstTakes}
+use Rattle.pg_main.specs.Jobs.{outcome_of, named_text, HasJournalOf}
+use Rattle.pg_main.specs.declared.refusal.Refusal.{Refusal}
+use Rattle.pg_main.specs.declared.refusal.Refusal.TheVariants.{Input, NoVertex, WriteFault, Memory}
+
+-- a refusal that comes after the graph was read and the source was found
+abbrev pub IsLate : Refusal → Type 0
+IsLate (Input error) = ⊥
+IsLate (NoVertex id) = ⊥
+IsLate WriteFault = Unit {0}
+IsLate Memory = Unit {0}
+
+-- why a run of executions gave no report
+abbrev pub refusal_of : AsyncError → Refusal
+refusal_of async.WriteFault = WriteFault
+refusal_of async.Memory = Memory
+
+-- the report was appended and the first counter took the gathers; or a front of it was appended
+pub record Reports (name : ProgramName) (engine : Engine) (g : Multigraph)
+    (before after : Option (List ℕ)) (faults_before faults_after : ℕ)
+    (steps_before steps_after : List (Option ℕ)) (result : Result End Refusal) : Type 0 where
+  pub end : IfOk result (λ end. (outcome_of name engine g).last.end ≡ end)
+  pub journal : OnOk result (HasJournalOf name engine g)
+  pub whole : OnOk result (after ≡ append_known before (named_text name engine g))
+  pub counted : OnOk result
+      (FirstTakes steps_before steps_after (outcome_of name engine g).last.gathers)
+  pub late : IfErr result IsLate
+  pub front : OnErr result (SendsFront before after (named_text name engine g))
+  pub fault : IsErrOf result WriteFault → HasRisen faults_before faults_after
+  pub later : faults_before ≤ faults_after
+  pub present : ArePresent steps_after

@@ -1,0 +1,86 @@
+//! The line that tells a refusal.
+ghost use Rattle.std.specs.Prelude.{◌≡◌};
+ghost use Rattle.std.specs.List.{flat_map};
+ghost use Rattle.pg_base.specs.Writing.{Writes};
+ghost use Rattle.pg_main.specs.Statuses.{error_line, kind_text, limit_text};
+
+use crate::status::Status;
+use itoa::Buffer;
+use pg_base::{Failed, Sink, write_whole};
+use pg_input::Which;
+use pg_readers::BadLine;
+
+/// Writes texts one after another.
+fn write_parts<K: Sink>(sink: &mut K, parts: &[&[u8]]) -> Result<(), Failed>
+    ensures { Writes (K.written sink.old) (K.written sink.new) (K.faults sink.old) (K.faults sink.new)
+        (flat_map (λ part. part.now) parts.now) result }
+{
+    for part in parts {
+        write_whole(sink, part)?;
+    }
+    Ok(())
+}
+
+/// Tells a refusal: writes its line, or nothing where the answer has none.
+pub fn tell<E: Sink>(err: &mut E, status: Status) -> Result<(), Failed>
+    ensures { Writes (E.written err.old) (E.written err.new) (E.faults err.old) (E.faults err.new)
+        (error_line status) result }
+{
+    match status {
+        Status::Quiescent | Status::Spent => write_whole(err, b""),
+        Status::Usage { place } => write_parts(
+            err,
+            &[
+                b"usage: word ",
+                Buffer::new().format(place).as_bytes(),
+                b"\n",
+            ],
+        ),
+        Status::Text { line, kind } => write_parts(
+            err,
+            &[
+                b"line ",
+                Buffer::new().format(line).as_bytes(),
+                text_of_kind(kind),
+            ],
+        ),
+        Status::Limit { which, limit } => write_parts(
+            err,
+            &[
+                text_of_limit(which),
+                Buffer::new().format(limit).as_bytes(),
+                b"\n",
+            ],
+        ),
+        Status::NoVertex { id } => write_parts(
+            err,
+            &[b"no vertex ", Buffer::new().format(id).as_bytes(), b"\n"],
+        ),
+        Status::ReadFault => write_whole(err, b"read fault\n"),
+        Status::WriteFault => write_whole(err, b"write fault\n"),
+        Status::Memory => write_whole(err, b"no memory\n"),
+    }
+}
+
+/// What is wrong with a line, behind its number.
+fn text_of_kind(kind: BadLine) -> &'static [u8]
+    ensures { result.now ≡ kind_text kind }
+{
+    match kind {
+        BadLine::TooFew => b": too few\n",
+        BadLine::BadNumber => b": bad number\n",
+        BadLine::BadCount => b": bad count\n",
+        BadLine::TooMany => b": too many\n",
+    }
+}
+
+/// Which limit was passed, before its number.
+fn text_of_limit(which: Which) -> &'static [u8]
+    ensures { result.now ≡ limit_text which }
+{
+    match which {
+        Which::Vertices => b"limit: vertices ",
+        Which::Edges => b"limit: edges ",
+        Which::Bytes => b"limit: bytes ",
+    }
+}
