@@ -1,0 +1,4 @@
+pub mod Reading
+pub mod Merging
+pub mod Sharing
+pub mod Parting

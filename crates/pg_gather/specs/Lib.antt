@@ -1,0 +1,3 @@
+pub mod Partials
+pub mod Merging
+pub mod Shares

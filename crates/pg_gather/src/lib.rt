@@ -1,0 +1,13 @@
+//! The gather phase: what each worker sums over its own edges, and the sums of all workers merged.
+#![tactic(auto)]
+
+mod laws;
+mod merge;
+mod near;
+mod partial;
+#[cfg(test)]
+mod tests;
+
+pub use laws::{parts_are_fresh, shares_are_readable};
+pub use merge::merge_at_masters;
+pub use partial::partial_sums;
