@@ -1,10 +1,10 @@
 -- Edges by the places of their ends: as ids are added, and as they are sorted.
-use Rattle.std.proofs.Common.{◌≡◌, ◌≢◌, ℕ, ◌+◌, ◌<◌, ◌≤◌, ◌^◌, true, false, cond, List, [], ◌∷◌, ◌++◌, length, get_or, take, refl, sym, ◌∙◌, ap, inl, inr, arith}
+use Rattle.std.proofs.Common.{◌≡◌, ◌≢◌, ℕ, ◌+◌, ◌<◌, ◌≤◌, ◌^◌, true, false, List, [], ◌∷◌, ◌++◌, length, get_or, take, refl, sym, ◌∙◌, ap, inl, inr, arith}
 use Rattle.std.specs.Prelude.{nat_eq, All, IfSome, IfOk, Result, Ok, Err, is_err, Option, Some, None, map, position, slice_get}
-use Rattle.std.specs.List.{list_any}
+use Rattle.std.specs.List.{list_any, IsDistinct}
 use Rattle.std.specs.List.Sorted.{IsPermutation, IsStrictlyIncreasing}
 use Rattle.std.specs.Cmp.{nat_eq_equiv}
-use Rattle.std.proofs.lemmas.Bool.{cases_Bool, cases_lt, eqb-true, ne_eqb}
+use Rattle.std.proofs.lemmas.Bool.{cases_Bool, cases_lt, eqb-true}
 use Rattle.std.proofs.lemmas.List.{length_push, length-map, get_or-map, get_or_append_left, get_or_push, get_or-take, length-take-le, map_push}
 use Rattle.std.proofs.lemmas.List.Elements.{All-head, All-tail, All-push, All-map, Contains-get_or}
 use Rattle.std.proofs.lemmas.List.Quantifiers.{position-Some}
@@ -12,9 +12,11 @@ use Rattle.std.proofs.lemmas.List.Sorted.{list_any-IsPermutation}
 use Rattle.std.proofs.lemmas.Map.Views.{list_any-from_Contains}
 use Rattle.std.proofs.lemmas.Option.{get_or_from_slice_get}
 use Rattle.pg_base.specs.declared.limits.Limits.{Limits}
+use Rattle.pg_base.specs.Limits.{IsWithinStandard}
 use Rattle.pg_graph.specs.declared.edge.Edge.{Edge}
+use Rattle.pg_graph.specs.declared.recent.Note.{Note}
 use Rattle.pg_graph.specs.Multigraph.{IsMultigraph, multigraph}
-use Rattle.pg_graph.specs.Building.{Building, building, with_id, ids_with, with_vertex, with_edge, named_edge, named, renumbered, IsBuilding, IsKept, IsPlaced, StandsAt, AreRanks}
+use Rattle.pg_graph.specs.Building.{Building, building, with_id, ids_with, with_vertex, named_edge, named, renumbered, IsBuilding, IsKept, IsNoted, IsPlaced, StandsAt, AreRanks}
 use Rattle.pg_graph.proofs.Built.{distinct_with, all_with, named_still, built_more, among, numbered}
 
 -- what holds of a success
@@ -36,6 +38,10 @@ stored_at ids id place stored within is same = record { within = within; found =
 -- an id that stands somewhere is there, so nothing is added
 pub already_with : (ids : List ℕ) (id place : ℕ) → StandsAt ids id place → with_id ids id ≡ ids
 already_with ids id place at = rw (rw at.found at (list_any-from_Contains nat_eq_equiv (get_or ids place 0) ids (Contains-get_or ids place 0 at.within))) refl
+
+-- an id that stands somewhere is among the ids
+pub stands_among : (ids : List ℕ) (id place : ℕ) → StandsAt ids id place → true ≡ list_any (nat_eq id) ids
+stands_among ids id place at = sym (rw at.found at (list_any-from_Contains nat_eq_equiv (get_or ids place 0) ids (Contains-get_or ids place 0 at.within)))
 
 pub both_already : (ids : List ℕ) (src dst src_place dst_place : ℕ) → StandsAt ids src src_place → StandsAt ids dst dst_place → ids_with ids src dst ≡ ids
 both_already ids src dst src_place dst_place src_at dst_at = rw (already_with ids src src_place src_at) (already_with ids dst dst_place dst_at)
@@ -59,6 +65,28 @@ still_at ids other place within = elim (cases_Bool (list_any (nat_eq other) ids)
 
 pub stands_still : (ids : List ℕ) (other id place : ℕ) → StandsAt ids id place → StandsAt (with_id ids other) id place
 stands_still ids other id place at = record { within = omega (arith, at.within, longer_with ids other); found = still_at ids other place at.within ∙ at.found }
+
+-- what is noted stays true
+pub noted_with : (ids : List ℕ) (id : ℕ) (notes : List Note) → All (IsNoted ids) notes → All (IsNoted (with_id ids id)) notes
+noted_with ids id notes each = λ k d h some. stands_still ids id (get_or notes k d).id (get_or notes k d).place (each k d h some)
+
+pub noted_more : (ids keys : List ℕ) (src dst : ℕ) (notes : List Note) → keys ≡ ids_with ids src dst → All (IsNoted ids) notes → All (IsNoted keys) notes
+noted_more ids keys src dst notes is each = rw is (noted_with (with_id ids src) dst notes (noted_with ids src notes each))
+
+-- nothing was added yet
+pub nothing_kept : (limits : Limits) → IsWithinStandard limits → IsKept limits [] [] 0
+unfolding IsDistinct
+nothing_kept limits within = record {
+  building = record {
+    limits = within;
+    distinct = tt;
+    id = λ k d h. absurd (omega (arith, h));
+    edges = λ k d h. absurd (omega (arith, h));
+    vertex_count = omega arith;
+    edge_count = omega arith;
+  };
+  placed = λ k d h. absurd (omega (arith, h));
+}
 
 -- two functions that agree on a list
 map_same : {X Y : Type 0} (f g : X → Y) (xs : List X) → All (λ x. f x ≡ g x) xs → map f xs ≡ map g xs
