@@ -1,4 +1,5 @@
 pub mod Carrying
+pub mod Drafting
 pub mod Gathering
 pub mod Visiting
 pub mod Steps

@@ -1,4 +1,5 @@
 pub mod Carries
+pub mod Drafts
 pub mod Gathers
 pub mod Visits
 pub mod Rising

@@ -1,8 +1,13 @@
 //! What a round writes before its end.
-ghost use Rattle.std.specs.Prelude.{◌≡◌, [], ◌∷◌, ◌++◌, is_some, IfOk, OnOk, if◌then◌else◌};
+ghost use Rattle.std.specs.Prelude.{◌≡◌, ◌<◌, ◌++◌, ◌∷◌, [], Some, None, length, map, slice_set, cond, All, IfOk, OnOk};
+ghost use Rattle.std.specs.List.{range_with_len};
+ghost use Rattle.pg_law.specs.Configuration.{datum_in, message_in};
+ghost use Rattle.pg_law.specs.Carries.{carry_at};
+ghost use Rattle.pg_rounds.specs.Drafts.{is_among, IsDraftOf};
 ghost use Rattle.pg_rounds.specs.Visits.{with_change};
 
-use pg_law::{Change, Datum};
+use pg_graph::Graph;
+use pg_law::{Applied, Change, Datum, State, VertexProgram};
 use std::alloc::{AllocError, Global};
 
 /// What a round writes before its end. The lists are kept from round to round.
@@ -10,6 +15,8 @@ use std::alloc::{AllocError, Global};
 /// `values[v]` and `messages[v]` are the datum and the message of the vertex `v` after apply, and
 /// `carries[v]` is there where it executes. `frontier` has the vertices that execute, ascending, and
 /// `changes` the edges whose words change, in the order of their visits.
+///
+/// Between rounds it is blank: the data are those of the state, and nobody has a carry or a message.
 #[derive(Drop)]
 pub struct Draft<C> {
     pub carries: Vec<Option<C>>,
@@ -19,57 +26,84 @@ pub struct Draft<C> {
     pub changes: Vec<Change>,
 }
 
+/// So many places with nothing.
+fn nothings<X: Drop>(alloc: Global, count: usize) -> Result<Vec<Option<X>>, AllocError>
+    ensures { IfOk result (λ list. list.items ≡ map (λ v. None) (range_with_len 0 count)) }
+{
+    let mut list = Vec::with_capacity(alloc, count)?;
+    for at in 0..count {
+        list.push(None)?;
+    }
+    Ok(list)
+}
+
+/// A blank draft of a state.
+pub fn blank_draft<P: VertexProgram>(
+    alloc: Global,
+    _program: &P,
+    graph: &Graph,
+    state: &State,
+) -> Result<Draft<P::Carry>, AllocError>
+    requires { length state.now.values ≡ length graph.now.ids }
+    ensures blank { IfOk result (λ draft. IsDraftOf (P.meaning _program.now) graph.now state.now []
+        draft.carries.items draft.values.items draft.messages.items) }
+    ensures changes { IfOk result (λ draft. draft.changes.items ≡ []) }
+{
+    let room = graph.vertices() as usize;
+    Ok(Draft {
+        carries: nothings(alloc, room)?,
+        frontier: Vec::with_capacity(alloc, room)?,
+        values: Vec::from_slice(alloc, state.values.as_slice())?,
+        messages: nothings(alloc, room)?,
+        changes: Vec::new(alloc),
+    })
+}
+
 impl<C: Copy> Draft<C> {
-    /// An empty draft with room for so many vertices.
-    pub fn with_room(alloc: Global, vertices: u32) -> Result<Draft<C>, AllocError>
-        ensures empty { IfOk result (λ draft. draft.changes.items ≡ []) }
-    {
-        let room = vertices as usize;
-        Ok(Draft {
-            carries: Vec::with_capacity(alloc, room)?,
-            frontier: Vec::with_capacity(alloc, room)?,
-            values: Vec::with_capacity(alloc, room)?,
-            messages: Vec::with_capacity(alloc, room)?,
-            changes: Vec::new(alloc),
-        })
-    }
-
-    /// Empties it, and keeps the room.
-    pub fn clear(&mut self)
-        ensures carries { self.new.carries.items ≡ [] }
-        ensures frontier { self.new.frontier.items ≡ [] }
-        ensures values { self.new.values.items ≡ [] }
-        ensures messages { self.new.messages.items ≡ [] }
-        ensures changes { self.new.changes.items ≡ [] }
-    {
-        self.carries.clear();
-        self.frontier.clear();
-        self.values.clear();
-        self.messages.clear();
-        self.changes.clear();
-    }
-
-    /// Adds the next vertex, by its carry where it executes, and its datum and message after apply.
-    pub fn add(
-        &mut self,
-        v: u32,
-        carry: Option<C>,
-        datum: Datum,
-        message: Option<u64>,
-    ) -> Result<(), AllocError>
-        ensures carries { OnOk result (self.new.carries.items ≡ self.old.carries.items ++ carry ∷ []) }
-        ensures frontier { OnOk result (self.new.frontier.items ≡ (if is_some carry then self.old.frontier.items ++ v ∷ [] else self.old.frontier.items)) }
-        ensures values { OnOk result (self.new.values.items ≡ self.old.values.items ++ datum ∷ []) }
-        ensures messages { OnOk result (self.new.messages.items ≡ self.old.messages.items ++ message ∷ []) }
+    /// Notes what the vertex `v` becomes.
+    pub fn note(&mut self, v: u32, applied: Applied<C>)
+        requires carries { v < length self.old.carries.items }
+        requires values { v < length self.old.values.items }
+        requires messages { v < length self.old.messages.items }
+        ensures carries { self.new.carries.items ≡
+            slice_set self.old.carries.items v (Some applied.carry) }
+        ensures values { self.new.values.items ≡ slice_set self.old.values.items v applied.datum }
+        ensures messages { self.new.messages.items ≡
+            slice_set self.old.messages.items v applied.again }
+        ensures frontier { self.new.frontier.items ≡ self.old.frontier.items }
         ensures changes { self.new.changes.items ≡ self.old.changes.items }
     {
-        if carry.is_some() {
-            self.frontier.push(v)?;
-        }
-        self.carries.push(carry)?;
-        self.values.push(datum)?;
-        self.messages.push(message)?;
-        Ok(())
+        self.carries[v as usize] = Some(applied.carry);
+        self.values[v as usize] = applied.datum;
+        self.messages[v as usize] = applied.again;
+    }
+}
+
+/// Hands over the data of the frontier, and takes away its carries and messages.
+pub fn hand_over<C: Copy>(
+    frontier: &[u32],
+    carries: &mut [Option<C>],
+    drafted: &[Datum],
+    values: &mut [Datum],
+    messages: &mut [Option<u64>],
+)
+    requires carries { All (λ v. v < length carries.old) frontier.now }
+    requires drafted { All (λ v. v < length drafted.now) frontier.now }
+    requires values { All (λ v. v < length values.old) frontier.now }
+    requires messages { All (λ v. v < length messages.old) frontier.now }
+    ensures carries { (v : _) → v < length carries.old →
+        carry_at carries.new v ≡ cond (is_among frontier.now v) None (carry_at carries.old v) }
+    ensures values { (v : _) → v < length values.old →
+        datum_in values.new v ≡
+        cond (is_among frontier.now v) (datum_in drafted.now v) (datum_in values.old v) }
+    ensures messages { (v : _) → v < length messages.old →
+        message_in messages.new v ≡ cond (is_among frontier.now v) None (message_in messages.old v) }
+{
+    for at in 0..frontier.len() {
+        let v = frontier[at] as usize;
+        carries[v] = None;
+        values[v] = drafted[v];
+        messages[v] = None;
     }
 }
 

@@ -1,17 +1,88 @@
 //! A round as its definition reads: new lists, and every edge is visited, ascending.
-ghost use Rattle.std.specs.Prelude.{◌≡◌, ◌+◌, ◌<◌, ◌≤◌, true, length, map, IfOk, OnOk};
+ghost use Rattle.std.specs.Prelude.{◌≡◌, ◌+◌, ◌<◌, ◌≤◌, true, length, map, IfOk, OnOk, if◌then◌else◌};
 ghost use Rattle.pg_graph.specs.Multigraph.{vertices, edge_numbers, edges_at};
-ghost use Rattle.pg_law.specs.Configuration.{Configuration, AreData, AreWords, AreMessages, IsFit, signalled, message_in};
-ghost use Rattle.pg_law.specs.Round.{outcomes, AreApplied, values_after, messages_after, final_word, with_signals, round as round_of};
+ghost use Rattle.pg_law.specs.Configuration.{Configuration, AreData, AreWords, AreMessages, IsFit, signalled, is_signalled, message_in};
+ghost use Rattle.pg_law.specs.Round.{outcome, outcomes, edges_over, datum_after, message_after};
+ghost use Rattle.pg_law.specs.Round.{AreApplied, values_after, messages_after, final_word, with_signals, round as round_of};
 ghost use Rattle.pg_law.specs.Rounds.{gathers_in};
 ghost use Rattle.pg_law.specs.Carries.{carry_in};
 
-use crate::apply::{apply_one, carry_of, datum_of, message_of};
 use crate::visit::{deliver, visit_edge};
 use pg_graph::Graph;
-use pg_law::{Applied, Datum, EdgeWords, State, Steps, VertexProgram, laws_of};
+use pg_law::{Applied, Datum, EdgeWords, State, Steps, VertexProgram, laws_of, take_turn};
 use std::alloc::{AllocError, Global};
 use std::sync::ledger::Ledger;
+
+/// What one vertex becomes, and what that took.
+#[derive(Drop)]
+struct Became<C> {
+    pub became: Option<Applied<C>>,
+    pub executions: u64,
+    pub gathers: u64,
+}
+
+/// A vertex applies to its fresh gather, if it is signalled.
+fn apply_one<P: VertexProgram, L: Ledger>(
+    alloc: Global,
+    program: &P,
+    graph: &Graph,
+    state: &State,
+    v: u32,
+    steps: &mut Steps<L>,
+) -> Result<Became<P::Carry>, AllocError>
+    requires fit { IsFit (P.meaning program.now) graph.now state.now }
+    requires v { v < length graph.now.ids }
+    ensures became { IfOk result (λ turn. turn.became ≡ outcome (P.meaning program.now) graph.now state.now (λ u. true) v) }
+    ensures executions { IfOk result (λ turn. turn.executions ≡ (if is_signalled state.now v then 1 else 0)) }
+    ensures gathers { IfOk result (λ turn. turn.gathers ≡ (if is_signalled state.now v then length (edges_over (P.meaning program.now).gather_edges graph.now v) else 0)) }
+    ensures counted { IfOk result (λ turn. steps.new ≡ steps.old + turn.gathers) }
+{
+    match state.messages[v as usize] {
+        None => Ok(Became {
+            became: None,
+            executions: 0,
+            gathers: 0,
+        }),
+        Some(message) => {
+            let turn = take_turn(alloc, program, graph, state, v, message, steps)?;
+            Ok(Became {
+                became: Some(turn.applied),
+                executions: 1,
+                gathers: turn.gathers,
+            })
+        }
+    }
+}
+
+/// The datum of a vertex after what it became.
+fn datum_of<C: Copy>(old: Datum, became: &Option<Applied<C>>) -> Datum
+    ensures { result ≡ datum_after old became.now }
+{
+    match became {
+        None => old,
+        Some(applied) => applied.datum,
+    }
+}
+
+/// The message of a vertex after what it became, without the signals of others.
+fn message_of<C: Copy>(old: Option<u64>, became: &Option<Applied<C>>) -> Option<u64>
+    ensures { result ≡ message_after old became.now }
+{
+    match became {
+        None => old,
+        Some(applied) => applied.again,
+    }
+}
+
+/// The carry of a vertex that became something.
+fn carry_of<C: Copy>(became: &Option<Applied<C>>) -> Option<C>
+    ensures { result ≡ carry_in became.now }
+{
+    match became {
+        None => None,
+        Some(applied) => Some(applied.carry),
+    }
+}
 
 /// What each vertex becomes, and what that took.
 #[derive(Drop)]

@@ -1,19 +1,13 @@
-use Rattle.std.proofs.Common.{◌≡◌, [], true, length}
-use Rattle.std.specs.Prelude.{map, filter}
-use Rattle.std.specs.List.{range_with_len}
-use Rattle.pg_law.specs.Configuration.{is_signalled, datum_in, message_in}
-use Rattle.pg_law.specs.Round.{outcome, outcomes, became_at, datum_after, message_after}
-use Rattle.pg_law.specs.Carries.{carry_in}
+use Rattle.std.proofs.Common.{◌≡◌, take}
+use Rattle.pg_law.specs.Configuration.{signalled}
+use Rattle.pg_rounds.specs.Drafts.{IsDraftOf}
 use Rattle.pg_rounds.proofs.apply.apply_dense.Given as goal
 
--- the draft of the vertices so far
-abbrev pub invariant-loop-v : goal.invariant-loop-v
-invariant-loop-v g l = let p = g.P.VertexProgram.meaning l.program in
-    let became = outcomes p l.graph l.state (λ v. true) in
-    record {
-      carries : l.draft.carries.items ≡ map (λ v. carry_in (outcome p l.graph l.state (λ u. true) v)) (range_with_len 0 l.v);
-      frontier : l.draft.frontier.items ≡ filter (is_signalled l.state) (range_with_len 0 l.v);
-      values : l.draft.values.items ≡ map (λ v. datum_after (datum_in l.state.values v) (became_at became v)) (range_with_len 0 l.v);
-      messages : l.draft.messages.items ≡ map (λ v. message_after (message_in l.state.messages v) (became_at became v)) (range_with_len 0 l.v);
-      changes : l.draft.changes.items ≡ [];
-    }
+-- the draft has the frontier so far
+abbrev pub invariant-loop-at : goal.invariant-loop-at
+invariant-loop-at g l = record {
+  drafted : IsDraftOf (g.P.VertexProgram.meaning l.program) l.graph l.state (take l.at (signalled l.graph l.state)) l.draft.carries.items l.draft.values.items l.draft.messages.items;
+  frontier : l.draft.frontier.items ≡ signalled l.graph l.state;
+  same_frontier : l.draft.frontier.items ≡ l.initial.draft.frontier.items;
+  changes : l.draft.changes.items ≡ l.initial.draft.changes.items;
+}
