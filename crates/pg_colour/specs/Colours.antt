@@ -1,6 +1,6 @@
 -- Sets of colours, as ascending lists.
 use Rattle.std.specs.Prelude.{◌≡◌, ℕ, ◌+◌, ◌<◌, ◌≤◌, ◌^◌, Bool, true, false, cond, ◌||◌, ◌==◌}
-use Rattle.std.specs.Prelude.{nat_lt, List, [], ◌∷◌, fold}
+use Rattle.std.specs.Prelude.{nat_lt, List, [], ◌∷◌, fold, Option, Some, None}
 
 -- strictly ascending words, the first of them no less than `low`
 abbrev pub AreColoursFrom : ℕ → List ℕ → Type 0
@@ -9,6 +9,11 @@ AreColoursFrom low (x ∷ xs) = (low ≤ x) × (x < 2 ^ 64) × AreColoursFrom (x
 
 abbrev pub AreColours : List ℕ → Type 0
 AreColours xs = AreColoursFrom 0 xs
+
+-- the only colour, where there is one, or else those of the list
+abbrev pub colours_of : Option ℕ → List ℕ → List ℕ
+colours_of (Some only) items = only ∷ []
+colours_of None items = items
 
 -- whether a colour stands in the list
 abbrev pub has : List ℕ → ℕ → Bool

@@ -71,7 +71,7 @@ impl VertexProgram for Colour {
         steps: &mut Steps<L>,
     ) -> Result<Colours, AllocError> {
         steps.tick();
-        Colours::one(alloc, near.other.first())
+        Ok(Colours::one(alloc, near.other.first()))
     }
 
     fn sum(&self, _alloc: Global, a: Colours, b: &Colours) -> Result<Colours, AllocError> {

@@ -6,19 +6,25 @@ ghost use Rattle.pg_colour.specs.Colours.{gap_from, least_free as least_free_of}
 
 use std::alloc::{AllocError, Global};
 use std::marker::Model;
+use std::slice;
 
 /// A set of colours, as an ascending list without repeats.
+///
+/// A single colour stands in `only` and takes no memory, so that a neighbour that is gathered takes
+/// none. Two colours or more stand in `items`.
 #[derive(Drop)]
 pub struct Colours {
+    only: Option<u64>,
     items: Vec<u64>,
 }
 
 impl Model for Colours {
     ghost use Rattle.std.specs.Prelude.{ℕ, List};
+    ghost use Rattle.pg_colour.specs.Colours.{colours_of};
 
     ghost Value = { List ℕ };
 
-    ghost view = { λ c. c.items.items };
+    ghost view = { λ c. colours_of c.only c.items.items };
 }
 
 impl Colours {
@@ -27,17 +33,19 @@ impl Colours {
         ensures { result ≡ [] }
     {
         Colours {
+            only: None,
             items: Vec::new(alloc),
         }
     }
 
-    /// One colour.
-    pub fn one(alloc: Global, colour: u64) -> Result<Colours, AllocError>
-        ensures { IfOk result (λ colours. colours ≡ colour ∷ []) }
+    /// One colour. It takes no memory.
+    pub fn one(alloc: Global, colour: u64) -> Colours
+        ensures { result ≡ colour ∷ [] }
     {
-        let mut items = Vec::with_capacity(alloc, 1)?;
-        items.push_reserved(colour);
-        Ok(Colours { items })
+        Colours {
+            only: Some(colour),
+            items: Vec::new(alloc),
+        }
     }
 
     /// The same colours in a list of their own.
@@ -45,28 +53,51 @@ impl Colours {
         ensures { IfOk result (λ colours. colours ≡ self.now) }
     {
         Ok(Colours {
+            only: self.only,
             items: self.items.clone()?,
         })
+    }
+
+    /// The colours in ascending order.
+    fn as_slice(&self) -> &[u64]
+        ensures { result.now ≡ self.now }
+    {
+        match &self.only {
+            Some(only) => slice::from_ref(only),
+            None => self.items.as_slice(),
+        }
     }
 
     pub fn contains(&self, colour: u64) -> bool
         requires { AreColours self.now }
         ensures { result ≡ has self.now colour }
     {
-        self.items.binary_search(&colour).is_ok()
+        self.as_slice().binary_search(&colour).is_ok()
     }
 
-    /// Adds a colour. One that is there already takes no memory.
+    /// Adds a colour. One that is there already takes no memory, and neither does the first.
     pub fn add(&mut self, colour: u64) -> Result<(), AllocError>
         requires { AreColours self.old }
         ensures ok { OnOk result (self.new ≡ with_colour self.old colour) }
         ensures err { OnErr result (self.new ≡ self.old) }
         ensures known { has self.old colour ≡ true → IsOk result }
     {
-        if let Err(at) = self.items.binary_search(&colour) {
-            self.items.insert(at, colour)?;
+        match self.only {
+            None if self.items.is_empty() => {
+                self.only = Some(colour);
+                Ok(())
+            }
+            None => insert(&mut self.items, colour),
+            Some(only) if only == colour => Ok(()),
+            Some(only) => {
+                self.items.clear();
+                self.items.reserve(2)?;
+                self.items.push_reserved(only.min(colour));
+                self.items.push_reserved(only.max(colour));
+                self.only = None;
+                Ok(())
+            }
         }
-        Ok(())
     }
 
     /// Adds the colours of another set. Where all are there already it takes no memory; after want
@@ -77,7 +108,7 @@ impl Colours {
         ensures ok { OnOk result (self.new ≡ union self.old other.now) }
         ensures known { ContainsAll self.old other.now → IsOk result }
     {
-        for &colour in &other.items {
+        for &colour in other.as_slice() {
             self.add(colour)?;
         }
         Ok(())
@@ -90,8 +121,21 @@ impl Colours {
         ensures free { has self.now result ≡ false }
         ensures least { (colour : ℕ) → colour < result → has self.now colour ≡ true }
     {
-        first_gap(&self.items)
+        first_gap(self.as_slice())
     }
+}
+
+/// Inserts a colour at its place, unless it is there.
+fn insert(colours: &mut Vec<u64>, colour: u64) -> Result<(), AllocError>
+    requires { AreColours colours.old.items }
+    ensures ok { OnOk result (colours.new.items ≡ with_colour colours.old.items colour) }
+    ensures err { OnErr result (colours.new.items ≡ colours.old.items) }
+    ensures known { has colours.old.items colour ≡ true → IsOk result }
+{
+    if let Err(at) = colours.binary_search(&colour) {
+        colours.insert(at, colour)?;
+    }
+    Ok(())
 }
 
 /// The least number that isn't in an ascending list without repeats.

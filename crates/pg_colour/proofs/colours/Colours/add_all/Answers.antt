@@ -7,7 +7,7 @@ use Rattle.pg_colour.proofs.Searching.{union_more, has_at}
 use Rattle.pg_colour.proofs.colours.Colours.add_all.Goals as goal
 
 pub loop-colour-preserved : goal.loop-colour-preserved
-loop-colour-preserved c = let colours = c.deref-colour-items.result.now in
+loop-colour-preserved c = let colours = c.as_slice-colour-items.result.now in
     let i = c.loop-colour.colour-index in
     let set = c.loop-colour.self in
     let colour = get_or colours i 0 in
@@ -22,11 +22,11 @@ loop-colour-preserved c = let colours = c.deref-colour-items.result.now in
 
 -- a colour that is in is in the union so far, so its add has succeeded
 pub returns-in_err-add-clause-known : goal.returns-in_err-add-clause-known
-returns-in_err-add-clause-known c = let colours = c.deref-colour-items.result.now in
+returns-in_err-add-clause-known c = let colours = c.as_slice-colour-items.result.now in
     let i = c.loop-colour.colour-index in
     let colour = get_or colours i 0 in
     let front = take i colours in
-    let same = sym (c.deref-colour-items.ensures.value ∙ c.other.view_is) in
+    let same = sym c.as_slice-colour-items.ensures in
     let there = ap (λ xs. has xs colour) same ∙ has_at colours i c.loop-colour-test.true in
     let united = ap (λ xs. has xs colour) c.loop-colour.invariant.so_far
     ∙ has_union c.args.self.now front colour in

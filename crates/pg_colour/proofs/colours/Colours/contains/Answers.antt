@@ -6,6 +6,6 @@ pub returns : goal.returns
 returns c = let set = c.args.self.now in
     let colour = c.args.colour in
     let r = c.binary_search.result in
-    let same = c.deref.ensures.value ∙ c.self.view_is in
-    let found = found_in c.deref.result.now set colour r same c.binary_search.ensures.position in
+    let same = c.as_slice.ensures in
+    let found = found_in c.as_slice.result.now set colour r same c.binary_search.ensures.position in
     c.is_ok.ensures.value ∙ is_there set colour r c.requires found
