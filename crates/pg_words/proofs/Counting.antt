@@ -1,19 +1,26 @@
--- Each word that may follow is one more behind what stands, and there are fifteen at most.
-use Rattle.std.proofs.Common.{◌≡◌, ℕ, ◌+◌, ◌*◌, ◌<◌, ◌≤◌, List, [], ◌∷◌, length, Bool, true, false, ◌||◌, cond, Option, Some, None, Contains, count_by, refl, sym, ◌∙◌, eqb, arith, zero, suc, lit<, lit≤, subst}
+-- Each word that may follow is one more behind what stands, and there are sixteen at most.
+use Rattle.std.proofs.Common.{◌≡◌, ℕ, ◌+◌, ◌*◌, ◌<◌, ◌≤◌, List, [], ◌∷◌, ◌++◌, length, Bool, true, false, ◌||◌, cond, Option, Some, None, Contains, count_by, refl, sym, ap, ◌∙◌, eqb, arith, zero, suc, lit<, lit≤, subst}
 use Rattle.std.proofs.lemmas.Bool.{eq-eqb}
 use Rattle.std.specs.List.{slice_index_or}
+use Rattle.std.proofs.lemmas.List.{length-append}
 use Rattle.std.proofs.lemmas.List.Sums.{count_by-le-length, sum_by-cons}
 use Rattle.pg_words.specs.Names.{Word, options}
 use Rattle.pg_words.specs.Options.{stands, with_flag}
-use Rattle.pg_words.specs.Jobs.{with_setting}
-use Rattle.pg_words.specs.Reading.{next, behind_option}
+use Rattle.pg_words.specs.Jobs.{head_words, with_setting}
+use Rattle.pg_words.specs.Reading.{next, standing, behind_option}
 use Rattle.pg_words.specs.declared.choices.Choices.{Choices}
 use Rattle.pg_words.specs.declared.head.Head.{Head}
+use Rattle.pg_words.specs.declared.head.Head.TheVariants as heads
+use Rattle.pg_words.specs.declared.lead.Lead.{Lead}
+use Rattle.pg_words.specs.declared.lead.Lead.TheVariants as leads
+use Rattle.pg_words.specs.declared.lead.Led.{Led}
+use Rattle.pg_words.specs.declared.lead.Led.TheVariants as to
 use Rattle.pg_words.specs.declared.names.OptionName.{OptionName}
 use Rattle.pg_words.specs.declared.names.OptionName.TheVariants as option
 use Rattle.pg_words.specs.declared.reading.Reading.{Reading}
 use Rattle.pg_words.specs.declared.reading.Reading.TheVariants as reading
-use Rattle.pg_words.proofs.Naming.{engine_step, program_step, option_step, value_step}
+use Rattle.pg_words.proofs.Leading.{lead_words, led_words, lead_step}
+use Rattle.pg_words.proofs.Naming.{option_step, value_step}
 use Rattle.pg_words.proofs.Choosing.{row, stands-with_setting}
 use Rattle.pg_words.proofs.Settings.{free_parts}
 
@@ -81,16 +88,28 @@ count-with_setting c d option word new e =
 
 -- at least how many words are behind what stands
 abbrev pub words_behind : Reading → ℕ
-words_behind reading.Start = 0
-words_behind (reading.Program engine) = 1
-words_behind (reading.Options head c) = 2 + 2 * count c
-words_behind (reading.Value head c option) = 3 + 2 * count c
+words_behind (reading.Lead lead) = length (lead_words lead)
+words_behind (reading.Options head c) = length (head_words head) + 2 * count c
+words_behind (reading.Value head c option) = length (head_words head) + 1 + 2 * count c
 
-pub words_behind-le : (standing : Reading) → words_behind standing ≤ 3 + 2 * length options
-words_behind-le reading.Start = lit≤ tt
-words_behind-le (reading.Program engine) = lit≤ tt
-words_behind-le (reading.Options head c) = let most = count_by-le-length (stands c) options in omega arith
-words_behind-le (reading.Value head c option) = let most = count_by-le-length (stands c) options in omega arith
+-- three words at most stand before the options
+head_words-le : (head : Head) → length (head_words head) ≤ 3
+head_words-le (heads.Run engine program) = lit≤ tt
+head_words-le (heads.Check engine program) = lit≤ tt
+
+pub words_behind-le : (standing : Reading) → words_behind standing ≤ 4 + 2 * length options
+words_behind-le (reading.Lead leads.Start) = lit≤ tt
+words_behind-le (reading.Lead leads.Check) = lit≤ tt
+words_behind-le (reading.Lead (leads.Run engine)) = lit≤ tt
+words_behind-le (reading.Lead (leads.CheckBy engine)) = lit≤ tt
+words_behind-le (reading.Options head c) =
+    let most = count_by-le-length (stands c) options in
+    let before = head_words-le head in
+    omega arith
+words_behind-le (reading.Value head c option) =
+    let most = count_by-le-length (stands c) options in
+    let before = head_words-le head in
+    omega arith
 
 -- an option that waits for its value doesn't stand yet, and never stands alone
 abbrev pub IsFresh : Reading → Type 0
@@ -114,14 +133,22 @@ behind-IsStep head c option new =
     ] in
     by_flag (with_flag c option) refl
 
+-- so does a word before the options
+led-IsStep : (lead : Lead) (led : Led) (word : Word) → led_words led ≡ lead_words lead ++ word ∷ []
+    → IsStep (reading.Lead lead) (standing led)
+led-IsStep lead led word spelled =
+    let longer : length (led_words led) ≡ length (lead_words lead) + 1 =
+    ap length spelled ∙ length-append (lead_words lead) (word ∷ []) in
+    elim led as (λ l. length (led_words l) ≡ length (lead_words lead) + 1 → IsStep (reading.Lead lead) (standing l)) [
+      | to.Lead more ↦ λ e. record { fresh = tt; further = omega arith }
+      | to.Head head ↦ λ e. record { fresh = tt; further = omega arith }
+    ] longer
+
 -- a word that may follow makes a step
 pub next-IsStep : (standing more : Reading) (word : Word) → IsFresh standing → next standing word ≡ Some more → IsStep standing more
-next-IsStep reading.Start more word fresh e =
-    let step = engine_step word more e in
-    subst (IsStep reading.Start) (sym step.is) (record { fresh = tt; further = lit< tt })
-next-IsStep (reading.Program engine) more word fresh e =
-    let step = program_step engine word more e in
-    subst (IsStep (reading.Program engine)) (sym step.is) (record { fresh = tt; further = lit< tt })
+next-IsStep (reading.Lead lead) more word fresh e =
+    let step = lead_step lead word more e in
+    subst (IsStep (reading.Lead lead)) (sym step.is) (led-IsStep lead step.led word step.spelled)
 next-IsStep (reading.Options head c) more word fresh e =
     let step = option_step head c word more e in
     subst (IsStep (reading.Options head c)) (sym step.is) (behind-IsStep head c step.option (free_parts head c step.option step.free).1)

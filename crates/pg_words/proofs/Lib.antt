@@ -1,6 +1,7 @@
 mod Choosing
 mod Completing
 mod Counting
+mod Leading
 mod Naming
 mod Ordering
 mod Parsing

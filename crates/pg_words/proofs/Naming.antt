@@ -4,13 +4,15 @@ use Rattle.std.proofs.lemmas.Option.{cond_some, option_and_then_some}
 use Rattle.std.proofs.lemmas.Slice.Eq.{bytes_eq-Decides}
 use Rattle.std.specs.Option.{option_map}
 use Rattle.std.specs.Str.{bytes_eq}
-use Rattle.pg_words.specs.Names.{Word, named, engines, engine_word, programs, program_word, options, option_word}
+use Rattle.pg_words.specs.Names.{Word, named, engines, engine_word, first_words, first_word, programs, program_word, options, option_word}
 use Rattle.pg_words.specs.Options.{with_flag, with_value}
-use Rattle.pg_words.specs.Reading.{next, with_program, is_free, behind_option, with_option}
+use Rattle.pg_words.specs.Reading.{next, is_free, behind_option, with_option}
 use Rattle.pg_words.specs.declared.choices.Choices.{Choices}
 use Rattle.pg_words.specs.declared.head.Head.{Head}
 use Rattle.pg_words.specs.declared.names.EngineName.{EngineName}
 use Rattle.pg_words.specs.declared.names.EngineName.TheVariants.{Sync, Async}
+use Rattle.pg_words.specs.declared.names.FirstWord.{FirstWord}
+use Rattle.pg_words.specs.declared.names.FirstWord.TheVariants as first
 use Rattle.pg_words.specs.declared.names.OptionName.{OptionName}
 use Rattle.pg_words.specs.declared.names.OptionName.TheVariants as option
 use Rattle.pg_words.specs.declared.names.ProgramWord.{ProgramWord}
@@ -38,6 +40,12 @@ pub engine_word-named : (word : EngineName) → named engine_word engines (engin
 engine_word-named Sync = refl
 engine_word-named Async = refl
 
+-- each first word is found by its word
+pub first_word-named : (word : FirstWord) → named first_word first_words (first_word word) ≡ Some word
+first_word-named (first.Engine Sync) = refl
+first_word-named (first.Engine Async) = refl
+first_word-named first.Check = refl
+
 -- each program is found by its word
 pub program_word-named : (word : ProgramWord) → named program_word programs (program_word word) ≡ Some word
 program_word-named program.Components = refl
@@ -60,31 +68,6 @@ pub mapped : {A B : Type 0} (f : A → B) (o : Option A) (y : B)
     → option_map f o ≡ Some y → (x : A) × (o ≡ Some x) × (f x ≡ y)
 mapped f None y e = cc
 mapped f (Some x) y e = (x, refl, cc)
-
--- the first word was an engine's
-pub record IsEngine (word : Word) (more : Reading) : Type 0 where
-  pub engine : EngineName
-  pub same : word ≡ engine_word engine
-  pub is : more ≡ reading.Program engine
-
-pub engine_step : (word : Word) (more : Reading) → next reading.Start word ≡ Some more → IsEngine word more
-engine_step word more e =
-    let found = mapped reading.Program (named engine_word engines word) more e in
-    let is : more ≡ reading.Program found.0 = cc in
-    record { engine = found.0; same = named-word engine_word engines word found.0 found.1; is = is }
-
--- the second word was a program's
-pub record IsProgram (engine : EngineName) (word : Word) (more : Reading) : Type 0 where
-  pub program : ProgramWord
-  pub same : word ≡ program_word program
-  pub is : more ≡ with_program engine program
-
-pub program_step : (engine : EngineName) (word : Word) (more : Reading)
-    → next (reading.Program engine) word ≡ Some more → IsProgram engine word more
-program_step engine word more e =
-    let found = mapped (with_program engine) (named program_word programs word) more e in
-    let is : more ≡ with_program engine found.0 = sym found.2 in
-    record { program = found.0; same = named-word program_word programs word found.0 found.1; is = is }
 
 -- the word was that of an option that may stand and doesn't yet
 pub record IsOption (head : Head) (c : Choices) (word : Word) (more : Reading) : Type 0 where

@@ -1,19 +1,24 @@
 -- The reading answers what the grammar says.
-use Rattle.std.proofs.Common.{◌≡◌, List, [], ◌∷◌, ◌++◌, true, Option, Some, None, refl, subst, ap}
+use Rattle.std.proofs.Common.{◌≡◌, List, [], ◌∷◌, ◌++◌, true, Option, Some, None, option_and_then, append_assoc, refl, subst, ap, ◌∙◌}
 use Rattle.std.proofs.lemmas.Option.{option_and_then_some}
 use Rattle.std.specs.List.{slice_index_or}
 use Rattle.pg_words.specs.Names.{Word}
 use Rattle.pg_words.specs.Options.{no_choices, with_flag, with_value, job_from}
 use Rattle.pg_words.specs.Jobs.{Setting, spelling, setting_words, with_setting, head_words, chosen, IsJobOf, IsJob}
-use Rattle.pg_words.specs.Reading.{next, is_free, behind_option, after, job_at, job_of}
+use Rattle.pg_words.specs.Reading.{next, standing, is_free, behind_option, after, job_at, job_of}
 use Rattle.pg_words.specs.declared.choices.Choices.{Choices}
 use Rattle.pg_words.specs.declared.head.Head.{Head}
+use Rattle.pg_words.specs.declared.lead.Lead.{Lead}
+use Rattle.pg_words.specs.declared.lead.Lead.TheVariants as leads
+use Rattle.pg_words.specs.declared.lead.Led.{Led}
+use Rattle.pg_words.specs.declared.lead.Led.TheVariants as to
 use Rattle.pg_words.specs.declared.names.OptionName.{OptionName}
 use Rattle.pg_words.specs.declared.names.OptionName.TheVariants as option
 use Rattle.pg_words.specs.declared.job.Job.{Job}
 use Rattle.pg_words.specs.declared.reading.Reading.{Reading}
 use Rattle.pg_words.specs.declared.reading.Reading.TheVariants as reading
-use Rattle.pg_words.proofs.Naming.{engine_word-named, option_word-named, program_word-named, engine_step, program_step, option_step, value_step}
+use Rattle.pg_words.proofs.Leading.{lead_words, led_words, lead_step, after-head_words}
+use Rattle.pg_words.proofs.Naming.{option_word-named, option_step, value_step}
 use Rattle.pg_words.proofs.Choosing.{stands-none}
 use Rattle.pg_words.proofs.Settings.{Placed, Placed-MayStand, MayStand-Placed}
 
@@ -121,30 +126,38 @@ IsJobOf-Placed head settings job is =
       meant = means;
     })
 
--- words that are read to a job are that job's
-pub IsJob-from_reading : (words : List Word) (job : Job) → job_of words ≡ Some job → IsJob words job
-IsJob-from_reading [] job e = cc
-IsJob-from_reading (word ∷ []) job e =
-    option_and_then_some job_at (after reading.Start (word ∷ [])) job e (λ last stands_last named.
-    (let first = after-cons reading.Start word [] last stands_last in
-    let step = engine_step word first.more first.follows in
-    let is : reading.Program step.engine ≡ last = cc in
-    let none : job_at last ≡ None = subst (λ (r : Reading). job_at r ≡ None) is refl in
-    cc))
-IsJob-from_reading (word ∷ second ∷ words) job e =
-    option_and_then_some job_at (after reading.Start (word ∷ second ∷ words)) job e (λ last stands_last named.
-    (let first = after-cons reading.Start word (second ∷ words) last stands_last in
-    let step = engine_step word first.more first.follows in
-    let then = after-cons (reading.Program step.engine) second words last (rw step.is at first.behind) in
-    let program = program_step step.engine second then.more then.follows in
-    let head : Head = record { engine = step.engine; program = program.program } in
-    let rest = rest_is head no_choices words last job (rw program.is at then.behind) named in
+-- words behind those before the options, or the first of them
+led_job : (led : Led) (words : List Word) (last : Reading) (job : Job)
+    → after (standing led) words ≡ Some last → job_at last ≡ Some job
+    → ((lead : Lead) → option_and_then job_at (after (reading.Lead lead) words) ≡ Some job → IsJob (lead_words lead ++ words) job)
+    → IsJob (led_words led ++ words) job
+led_job (to.Lead lead) words last job e named by_lead = by_lead lead (ap (option_and_then job_at) e ∙ named)
+led_job (to.Head head) words last job e named by_lead =
+    let rest = rest_is head no_choices words last job e named in
     record {
       head = head;
       settings = rest.settings;
-      spelled = cc;
+      spelled = ap (λ (back : List Word). head_words head ++ back) rest.spelled;
       is = Placed-IsJobOf head rest.settings rest.made job rest.placed rest.meant;
-    }))
+    }
+
+-- words that are read to a job behind a lead are that job's, with the words of the lead before them
+lead_job : (lead : Lead) (words : List Word) (job : Job)
+    → option_and_then job_at (after (reading.Lead lead) words) ≡ Some job → IsJob (lead_words lead ++ words) job
+lead_job lead [] job e = cc
+lead_job lead (word ∷ words) job e =
+    option_and_then_some job_at (after (reading.Lead lead) (word ∷ words)) job e (λ last stands_last named.
+    (let first = after-cons (reading.Lead lead) word words last stands_last in
+    let step = lead_step lead word first.more first.follows in
+    let behind : after (standing step.led) words ≡ Some last = rw step.is at first.behind in
+    let is : IsJob (led_words step.led ++ words) job =
+    led_job step.led words last job behind named (λ more. lead_job more words job) in
+    subst (λ (all : List Word). IsJob all job)
+    (ap (λ (front : List Word). front ++ words) step.spelled ∙ append_assoc (lead_words lead) (word ∷ []) words) is))
+
+-- words that are read to a job are that job's
+pub IsJob-from_reading : (words : List Word) (job : Job) → job_of words ≡ Some job → IsJob words job
+IsJob-from_reading words job e = lead_job leads.Start words job e
 
 -- a value is read behind the option that waits for it
 waits_for : (c : Choices) (option : OptionName) (word : Word) (d : Choices) → with_value c option word ≡ Some d
@@ -177,11 +190,9 @@ job_of-head_words : (head : Head) (settings : List Setting) (job : Job)
     → IsJobOf head settings job → job_of (head_words head ++ setting_words settings) ≡ Some job
 job_of-head_words head settings job is =
     let placed = IsJobOf-Placed head settings job is in
-    let engine = engine_word-named head.engine in
-    let program = program_word-named head.program in
-    let rest = after-setting_words head no_choices placed.made settings placed.placed in
-    let meant = placed.meant in
-    rw (engine, program, rest) meant
+    let read = after-head_words head (setting_words settings)
+    ∙ after-setting_words head no_choices placed.made settings placed.placed in
+    ap (option_and_then job_at) read ∙ placed.meant
 
 -- words of a job are read to that job
 pub job_of-IsJob : (words : List Word) (job : Job) → IsJob words job → job_of words ≡ Some job

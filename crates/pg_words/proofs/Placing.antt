@@ -5,9 +5,8 @@ use Rattle.std.proofs.lemmas.Option.{option_and_then_some}
 use Rattle.std.proofs.lemmas.List.{take-append-drop, take_all, take_more, length-map, get_or-map}
 use Rattle.pg_words.specs.Names.{Word}
 use Rattle.pg_words.specs.Jobs.{IsJob, BeginsJob, IsPlace}
-use Rattle.pg_words.specs.Reading.{next, after, job_at, job_of}
+use Rattle.pg_words.specs.Reading.{start, next, after, job_at, job_of}
 use Rattle.pg_words.specs.declared.reading.Reading.{Reading}
-use Rattle.pg_words.specs.declared.reading.Reading.TheVariants as reading
 use Rattle.pg_words.proofs.Completing.{can_end}
 use Rattle.pg_words.proofs.Counting.{IsFresh, next-IsStep}
 use Rattle.pg_words.proofs.Parsing.{IsJob-from_reading, job_of-IsJob}
@@ -25,9 +24,9 @@ after-append standing (word ∷ front) back =
 
 -- what stands after a word more
 pub after-push : (words : List Word) (word : Word) (standing : Reading)
-    → after reading.Start words ≡ Some standing → after reading.Start (words ++ word ∷ []) ≡ next standing word
+    → after start words ≡ Some standing → after start (words ++ word ∷ []) ≡ next standing word
 after-push words word standing e =
-    let parts = after-append reading.Start words (word ∷ []) in
+    let parts = after-append start words (word ∷ []) in
     let last : (o : Option Reading) → option_and_then (λ more. Some more) o ≡ o =
     λ o. elim o as (λ v. option_and_then (λ more. Some more) v ≡ v) [ None ↦ refl | Some r ↦ refl ] in
     parts ∙ (rw e (last (next standing word)))
@@ -40,19 +39,19 @@ after-IsFresh standing last (word ∷ words) fresh e =
     after-IsFresh more last words (next-IsStep standing more word fresh follows).fresh behind)
 
 -- words after which something stands begin a job
-begins : (words : List Word) (standing : Reading) → after reading.Start words ≡ Some standing → BeginsJob words
+begins : (words : List Word) (standing : Reading) → after start words ≡ Some standing → BeginsJob words
 begins words standing e =
-    let end = can_end standing (after-IsFresh reading.Start standing words tt e) in
-    let parts = after-append reading.Start words end.0 in
+    let end = can_end standing (after-IsFresh start standing words tt e) in
+    let parts = after-append start words end.0 in
     let read : job_of (words ++ end.0) ≡ Some end.1 =
     subst (λ (o : Option Reading). option_and_then job_at o ≡ Some end.1) (sym (parts ∙ rw e refl)) end.2 in
     (end.0, end.1, IsJob-from_reading (words ++ end.0) end.1 read)
 
 -- others begin none
-begins_none : (words : List Word) → after reading.Start words ≡ None → BeginsJob words → ⊥
+begins_none : (words : List Word) → after start words ≡ None → BeginsJob words → ⊥
 begins_none words e (back, job, is) =
-    let parts = after-append reading.Start words back in
-    let nothing : after reading.Start (words ++ back) ≡ None = parts ∙ rw e refl in
+    let parts = after-append start words back in
+    let nothing : after start (words ++ back) ≡ None = parts ∙ rw e refl in
     let none : job_of (words ++ back) ≡ None = ap (option_and_then job_at) nothing in
     let some : job_of (words ++ back) ≡ Some job = job_of-IsJob (words ++ back) job is in
     cc
@@ -78,11 +77,11 @@ begins-take words k i below begins =
     rw (← front) (begins-front (take k (take i words)) (drop k (take i words)) (rw whole begins))
 
 -- nothing stands after words that nothing stands after a front of
-after-stops : (words : List Word) (i : ℕ) → after reading.Start (take i words) ≡ None → after reading.Start words ≡ None
+after-stops : (words : List Word) (i : ℕ) → after start (take i words) ≡ None → after start words ≡ None
 after-stops words i nothing =
     let whole = take-append-drop i words in
-    let parts = after-append reading.Start (take i words) (drop i words) in
-    ap (after reading.Start) (sym whole) ∙ (parts ∙ rw nothing refl)
+    let parts = after-append start (take i words) (drop i words) in
+    ap (after start) (sym whole) ∙ (parts ∙ rw nothing refl)
 
 -- the words name no job, and go wrong there
 pub record GoesWrong (words : List Word) (place : ℕ) : Type 0 where
@@ -91,10 +90,10 @@ pub record GoesWrong (words : List Word) (place : ℕ) : Type 0 where
 
 -- the word at i may not follow those before it
 pub wrong_at : (words : List Word) (i : ℕ) (standing : Reading) (word : Word) → i < length words
-    → after reading.Start (take i words) ≡ Some standing → take (i + 1) words ≡ take i words ++ word ∷ []
+    → after start (take i words) ≡ Some standing → take (i + 1) words ≡ take i words ++ word ∷ []
     → next standing word ≡ None → GoesWrong words (i + 1)
 wrong_at words i standing word inside stands more stops =
-    let nothing : after reading.Start (take (i + 1) words) ≡ None = rw more (after-push (take i words) word standing stands ∙ stops) in
+    let nothing : after start (take (i + 1) words) ≡ None = rw more (after-push (take i words) word standing stands ∙ stops) in
     record {
       none = ap (option_and_then job_at) (after-stops words (i + 1) nothing);
       at = record {
@@ -105,7 +104,7 @@ wrong_at words i standing word inside stands more stops =
     }
 
 -- all words may stand, and words are missing
-pub wrong_behind : (words : List Word) (standing : Reading) → after reading.Start words ≡ Some standing
+pub wrong_behind : (words : List Word) (standing : Reading) → after start words ≡ Some standing
     → job_at standing ≡ None → GoesWrong words (length words + 1)
 wrong_behind words standing stands missing =
     let all = take_all (length words) words (omega arith) in

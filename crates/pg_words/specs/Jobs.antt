@@ -1,15 +1,20 @@
 -- Which words name which job, and where words that name none go wrong.
 use Rattle.std.specs.Prelude.{◌≡◌, ◌≢◌, ℕ, ◌+◌, ◌<◌, ◌≤◌, List, [], ◌∷◌, ◌++◌, length, take, Option, Some, IsTrue, All, AllPairs, flat_map, option_and_then, None}
-use Rattle.pg_words.specs.Names.{Word, engine_word, program_word, option_word}
+use Rattle.pg_words.specs.Names.{Word, engine_word, first_word, program_word, option_word}
 use Rattle.pg_words.specs.Options.{takes, no_choices, with_flag, with_value, job_from}
 use Rattle.pg_words.specs.declared.choices.Choices.{Choices}
 use Rattle.pg_words.specs.declared.head.Head.{Head}
+use Rattle.pg_words.specs.declared.head.Head.TheVariants as heads
+use Rattle.pg_words.specs.declared.names.FirstWord.TheVariants as first
 use Rattle.pg_words.specs.declared.names.OptionName.{OptionName}
 use Rattle.pg_words.specs.declared.job.Job.{Job}
 
--- the words before the options
+-- the words before the options, a row for each kind of job
 abbrev pub head_words : Head → List Word
-head_words head = engine_word head.engine ∷ program_word head.program ∷ []
+head_words (heads.Run engine program) =
+    first_word (first.Engine engine) ∷ program_word program ∷ []
+head_words (heads.Check engine program) =
+    first_word first.Check ∷ engine_word engine ∷ program_word program ∷ []
 
 -- an option that stands, alone or with a word behind it
 pub record Setting : Type 0 where

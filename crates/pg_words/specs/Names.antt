@@ -5,6 +5,8 @@ use Rattle.pg_readers.specs.declared.line.Format.{Format}
 use Rattle.pg_readers.specs.declared.line.Format.TheVariants as format
 use Rattle.pg_words.specs.declared.names.EngineName.{EngineName}
 use Rattle.pg_words.specs.declared.names.EngineName.TheVariants.{Sync, Async}
+use Rattle.pg_words.specs.declared.names.FirstWord.{FirstWord}
+use Rattle.pg_words.specs.declared.names.FirstWord.TheVariants as first
 use Rattle.pg_words.specs.declared.names.ProgramWord.{ProgramWord}
 use Rattle.pg_words.specs.declared.names.ProgramWord.TheVariants as program
 use Rattle.pg_words.specs.declared.names.OptionName.{OptionName}
@@ -21,6 +23,14 @@ engines = Sync ∷ Async ∷ []
 abbrev pub engine_word : EngineName → Word
 engine_word Sync = codes "sync"
 engine_word Async = codes "async"
+
+-- the first words of jobs: an engine's, which runs, and that before the words of a run whose report is checked
+abbrev pub first_words : List FirstWord
+first_words = first.Engine Sync ∷ first.Engine Async ∷ first.Check ∷ []
+
+abbrev pub first_word : FirstWord → Word
+first_word (first.Engine engine) = engine_word engine
+first_word first.Check = codes "check"
 
 -- the programs
 abbrev pub programs : List ProgramWord

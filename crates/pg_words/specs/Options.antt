@@ -1,11 +1,12 @@
 -- The options: where each may stand, what its value may be, and what holds where it doesn't stand.
-use Rattle.std.specs.Prelude.{◌^◌, ◌-◌, Bool, true, false, Option, Some, None, is_some, unwrap_or, option_and_then, if◌then◌else◌}
+use Rattle.std.specs.Prelude.{◌^◌, ◌-◌, Bool, true, false, Option, Some, None, is_some, unwrap_or, if◌then◌else◌}
 use Rattle.std.specs.Option.{option_map}
 use Rattle.pg_base.specs.Numbers.{number_of}
 use Rattle.pg_readers.specs.declared.line.Format.TheVariants.{Snap}
 use Rattle.pg_words.specs.Names.{Word, named, formats, format_word, has_rounds, has_fuel, has_source, has_tolerance}
 use Rattle.pg_words.specs.declared.choices.Choices.{Choices}
 use Rattle.pg_words.specs.declared.head.Head.{Head}
+use Rattle.pg_words.specs.declared.head.Head.TheVariants as heads
 use Rattle.pg_words.specs.declared.names.OptionName.{OptionName}
 use Rattle.pg_words.specs.declared.names.OptionName.TheVariants as option
 use Rattle.pg_words.specs.declared.names.EngineName.{EngineName}
@@ -16,17 +17,23 @@ use Rattle.pg_words.specs.declared.job.Engine.{Engine}
 use Rattle.pg_words.specs.declared.job.Engine.TheVariants as engine
 use Rattle.pg_words.specs.declared.job.ProgramName.{ProgramName}
 use Rattle.pg_words.specs.declared.job.ProgramName.TheVariants as program
+use Rattle.pg_words.specs.declared.job.RunJob.{RunJob}
 use Rattle.pg_words.specs.declared.job.Job.{Job}
 use Rattle.pg_words.specs.declared.job.Job.TheVariants as job
 
--- where an option may stand
+-- where an option may stand behind a program by an engine
+abbrev pub run_takes : EngineName → ProgramWord → OptionName → Bool
+run_takes engine program option.Format = true
+run_takes engine program option.Rounds = has_rounds engine
+run_takes engine program option.Fuel = has_fuel engine
+run_takes engine program option.Serial = has_fuel engine
+run_takes engine program option.Source = has_source program
+run_takes engine program option.Tolerance = has_tolerance program
+
+-- where an option may stand: a check takes what its run takes
 abbrev pub takes : Head → OptionName → Bool
-takes head option.Format = true
-takes head option.Rounds = has_rounds head.engine
-takes head option.Fuel = has_fuel head.engine
-takes head option.Serial = has_fuel head.engine
-takes head option.Source = has_source head.program
-takes head option.Tolerance = has_tolerance head.program
+takes (heads.Run engine program) option = run_takes engine program option
+takes (heads.Check engine program) option = run_takes engine program option
 
 -- no option stands
 abbrev pub no_choices : Choices
@@ -67,10 +74,15 @@ with_value c option.Source word =
 with_value c option.Tolerance word =
     option_map (λ x. record c { tolerance = Some x }) (number_of (2 ^ 64 - 1) word)
 
--- the engine with its limit, or None where `--serial` is missing: `async` has no other way to run
-abbrev pub engine_of : EngineName → Choices → Option Engine
-engine_of Sync c = Some (engine.Sync (unwrap_or c.rounds 1000000))
-engine_of Async c = if c.serial then Some (engine.Serial (unwrap_or c.fuel 1000000000)) else None
+-- the engine with its limit
+abbrev pub engine_of : EngineName → Choices → Engine
+engine_of Sync c = engine.Sync (unwrap_or c.rounds 1000000)
+engine_of Async c = engine.Serial (unwrap_or c.fuel 1000000000)
+
+-- whether the engine can run: `--serial` is the one way in which `async` does
+abbrev pub can_run : EngineName → Choices → Bool
+can_run Sync c = true
+can_run Async c = c.serial
 
 -- the program with its number, or None where its source is missing
 abbrev pub program_of : ProgramWord → Choices → Option ProgramName
@@ -80,10 +92,16 @@ program_of word.Sssp c = option_map program.Sssp c.source
 program_of word.Rank c = Some (program.Rank (unwrap_or c.tolerance 0))
 program_of word.Tree c = option_map program.Tree c.source
 
+-- a program by an engine, or None where its source is missing
+abbrev pub run_job : EngineName → ProgramWord → Choices → Option RunJob
+run_job engine program c = option_map (λ named. record {
+  engine = engine_of engine c;
+  program = named;
+  format = unwrap_or c.format Snap;
+}) (program_of program c)
+
 -- the job of these words and choices, or None where a required option is missing
 abbrev pub job_from : Head → Choices → Option Job
-job_from head c = option_and_then (λ engine. option_map (λ program. job.Run (record {
-  engine = engine;
-  program = program;
-  format = unwrap_or c.format Snap;
-})) (program_of head.program c)) (engine_of head.engine c)
+job_from (heads.Run engine program) c =
+    if can_run engine c then option_map job.Run (run_job engine program c) else None
+job_from (heads.Check engine program) c = option_map job.Check (run_job engine program c)

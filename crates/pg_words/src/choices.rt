@@ -20,7 +20,7 @@ pub struct Choices {
 }
 
 impl Choices {
-    ghost use Rattle.pg_words.specs.Options.{no_choices, stands, with_flag, with_value, engine_of, program_of, job_from};
+    ghost use Rattle.pg_words.specs.Options.{no_choices, stands, with_flag, with_value, engine_of, can_run, program_of, run_job, job_from};
 
     /// No option stands.
     pub fn new() -> Choices
@@ -92,19 +92,27 @@ impl Choices {
         }
     }
 
-    /// The engine with its limit, unless it is `async` and `--serial` is missing: it has no other way
-    /// to run.
-    fn engine(&self, name: EngineName) -> Option<Engine>
+    /// The engine with its limit.
+    fn engine(&self, name: EngineName) -> Engine
         ensures { result ≡ engine_of name self.now }
     {
         match name {
-            EngineName::Sync => Some(Engine::Sync {
+            EngineName::Sync => Engine::Sync {
                 rounds: self.rounds.unwrap_or(1_000_000),
-            }),
-            EngineName::Async if self.serial => Some(Engine::Serial {
+            },
+            EngineName::Async => Engine::Serial {
                 fuel: self.fuel.unwrap_or(1_000_000_000),
-            }),
-            EngineName::Async => None,
+            },
+        }
+    }
+
+    /// Whether the engine can run: `--serial` is the one way in which `async` does.
+    fn can_run(&self, name: EngineName) -> bool
+        ensures { result ≡ can_run name self.now }
+    {
+        match name {
+            EngineName::Sync => true,
+            EngineName::Async => self.serial,
         }
     }
 
@@ -127,15 +135,28 @@ impl Choices {
         }
     }
 
+    /// A program by an engine, unless its source is missing.
+    fn run_job(&self, engine: EngineName, program: ProgramWord) -> Option<RunJob>
+        ensures { result ≡ run_job engine program self.now }
+    {
+        Some(RunJob {
+            engine: self.engine(engine),
+            program: self.program(program)?,
+            format: self.format.unwrap_or(Format::Snap),
+        })
+    }
+
     /// The job that these words and choices name, unless a required option is missing.
     pub fn job(&self, head: Head) -> Option<Job>
         ensures { result ≡ job_from head self.now }
     {
-        Some(Job::Run(RunJob {
-            engine: self.engine(head.engine)?,
-            program: self.program(head.program)?,
-            format: self.format.unwrap_or(Format::Snap),
-        }))
+        match head {
+            Head::Run(engine, program) if self.can_run(engine) => {
+                Some(Job::Run(self.run_job(engine, program)?))
+            }
+            Head::Run(_, _) => None,
+            Head::Check(engine, program) => Some(Job::Check(self.run_job(engine, program)?)),
+        }
     }
 }
 

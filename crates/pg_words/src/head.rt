@@ -1,29 +1,40 @@
 //! The words before the options.
 ghost use Rattle.std.specs.Prelude.{◌≡◌};
+ghost use Rattle.pg_words.specs.Options.{takes, run_takes};
 
 use crate::names::{EngineName, OptionName, ProgramWord};
 
-/// The words before the options: an engine and a program.
+/// The words before the options: a row for each kind of job.
 #[derive(Clone, Copy)]
-pub struct Head {
-    pub engine: EngineName,
-    pub program: ProgramWord,
+pub enum Head {
+    /// A program by an engine.
+    Run(EngineName, ProgramWord),
+    /// `check`, and the words of the run whose report is checked.
+    Check(EngineName, ProgramWord),
 }
 
 impl Head {
-    ghost use Rattle.pg_words.specs.Options.{takes};
-
     /// Whether an option may stand behind these words.
     pub fn takes(self, option: OptionName) -> bool
         ensures { result ≡ takes self option }
     {
-        match option {
-            OptionName::Format => true,
-            OptionName::Rounds => self.engine.has_rounds(),
-            OptionName::Fuel => self.engine.has_fuel(),
-            OptionName::Serial => self.engine.has_fuel(),
-            OptionName::Source => self.program.has_source(),
-            OptionName::Tolerance => self.program.has_tolerance(),
+        match self {
+            Head::Run(engine, program) => run_takes(engine, program, option),
+            Head::Check(engine, program) => run_takes(engine, program, option),
         }
+    }
+}
+
+/// Whether an option may stand behind a program by an engine.
+fn run_takes(engine: EngineName, program: ProgramWord, option: OptionName) -> bool
+    ensures { result ≡ run_takes engine program option }
+{
+    match option {
+        OptionName::Format => true,
+        OptionName::Rounds => engine.has_rounds(),
+        OptionName::Fuel => engine.has_fuel(),
+        OptionName::Serial => engine.has_fuel(),
+        OptionName::Source => program.has_source(),
+        OptionName::Tolerance => program.has_tolerance(),
     }
 }

@@ -36,6 +36,8 @@ impl ProgramName {
 }
 
 /// A run of a program on a graph text.
+///
+/// Where its report is checked, the engine says whose report it is, and with which limit.
 #[derive(Clone, Copy, Debug, PartialEq, Eq)]
 pub struct RunJob {
     pub engine: Engine,
@@ -46,5 +48,8 @@ pub struct RunJob {
 /// What is to be done.
 #[derive(Clone, Copy, Debug, PartialEq, Eq)]
 pub enum Job {
+    /// Runs a program and reports.
     Run(RunJob),
+    /// Checks the report that stands behind the graph text.
+    Check(RunJob),
 }

@@ -5,6 +5,7 @@ mod choices;
 mod head;
 mod job;
 pub mod laws;
+mod lead;
 mod names;
 mod reading;
 

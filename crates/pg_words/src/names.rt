@@ -1,6 +1,6 @@
 //! Words that are names: a row each.
 ghost use Rattle.std.specs.Prelude.{◌≡◌};
-ghost use Rattle.pg_words.specs.Names.{named, engines, engine_word, programs, program_word, formats, format_word, options, option_word, has_rounds, has_fuel, has_source, has_tolerance};
+ghost use Rattle.pg_words.specs.Names.{named, engines, engine_word, first_words, first_word, programs, program_word, formats, format_word, options, option_word, has_rounds, has_fuel, has_source, has_tolerance};
 
 use pg_readers::Format;
 
@@ -39,6 +39,32 @@ impl EngineName {
         ensures { result ≡ has_fuel self }
     {
         matches!(self, EngineName::Async)
+    }
+}
+
+/// The first word of a job.
+#[derive(Clone, Copy)]
+pub enum FirstWord {
+    /// That of an engine, which runs.
+    Engine(EngineName),
+    /// `check`, and the words of a run follow.
+    Check,
+}
+
+impl FirstWord {
+    /// The first word that this is.
+    pub fn named(word: &str) -> Option<FirstWord>
+        ensures { result ≡ named first_word first_words word.now }
+    {
+        if word == "sync" {
+            Some(FirstWord::Engine(EngineName::Sync))
+        } else if word == "async" {
+            Some(FirstWord::Engine(EngineName::Async))
+        } else if word == "check" {
+            Some(FirstWord::Check)
+        } else {
+            None
+        }
     }
 }
 

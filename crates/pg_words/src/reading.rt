@@ -2,12 +2,13 @@
 ghost use Rattle.std.specs.Prelude.{◌≡◌, None, Some, map, IfOk, IfErr, OnErr, string_bytes};
 ghost use Rattle.pg_words.specs.Jobs.{IsJob, IsPlace};
 ghost use Rattle.pg_words.specs.Options.{with_flag};
-ghost use Rattle.pg_words.specs.Reading.{is_free, behind_option, next, job_at, job_of};
+ghost use Rattle.pg_words.specs.Reading.{standing, is_free, behind_option, next, job_at, job_of};
 
 use crate::choices::Choices;
 use crate::head::Head;
 use crate::job::Job;
-use crate::names::{EngineName, OptionName, ProgramWord};
+use crate::lead::{Lead, Led};
+use crate::names::OptionName;
 
 /// Words that name no job.
 #[derive(Clone, Copy, Debug, PartialEq, Eq)]
@@ -20,13 +21,25 @@ pub struct Usage {
 /// What stands after words that begin a job.
 #[derive(Clone, Copy)]
 pub enum Reading {
-    Start,
-    Program(EngineName),
+    /// Words before the options are missing.
+    Lead(Lead),
+    /// Options may follow.
     Options(Head, Choices),
+    /// An option waits for its value.
     Value(Head, Choices, OptionName),
 }
 
 impl Reading {
+    /// What stands behind the words before the options, or the first of them.
+    fn led(led: Led) -> Reading
+        ensures { result ≡ standing led }
+    {
+        match led {
+            Led::Lead(lead) => Reading::Lead(lead),
+            Led::Head(head) => Reading::Options(head, Choices::new()),
+        }
+    }
+
     /// What stands behind an option: one that stands alone sets, and another waits for its value.
     fn behind(head: Head, choices: Choices, option: OptionName) -> Reading
         ensures { result ≡ behind_option head choices option (with_flag choices option) }
@@ -42,14 +55,7 @@ impl Reading {
         ensures { result ≡ next self word.now }
     {
         match self {
-            Reading::Start => Some(Reading::Program(EngineName::named(word)?)),
-            Reading::Program(engine) => Some(Reading::Options(
-                Head {
-                    engine,
-                    program: ProgramWord::named(word)?,
-                },
-                Choices::new(),
-            )),
+            Reading::Lead(lead) => Some(Reading::led(lead.with(word)?)),
             Reading::Options(head, choices) => {
                 let option = OptionName::named(word)?;
                 if is_free(head, choices, option) {
@@ -90,7 +96,7 @@ pub fn read_words(words: &[String]) -> Result<Job, Usage>
     ensures err { OnErr result (job_of (map string_bytes words.now) ≡ None) }
     ensures place { IfErr result (λ usage. IsPlace (map string_bytes words.now) usage.place) }
 {
-    let mut standing = Reading::Start;
+    let mut standing = Reading::Lead(Lead::Start);
     let mut place = 1;
     for word in words {
         match standing.next(word.as_str()) {

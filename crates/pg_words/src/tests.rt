@@ -42,6 +42,102 @@ fn words_name_their_run(rt: HostRuntime) -> Result<(), Fail> {
 }
 
 #[test]
+fn words_name_the_run_whose_report_is_checked(rt: HostRuntime) -> Result<(), Fail> {
+    let rows = [
+        ("check sync components", sync(ProgramName::Components)),
+        ("check sync colour", sync(ProgramName::Colour)),
+        (
+            "check sync sssp --source 0",
+            sync(ProgramName::Sssp { source: 0 }),
+        ),
+        (
+            "check sync sssp --format adj --rounds 3 --source 4294967295",
+            paths_from_the_last_id(),
+        ),
+        (
+            "check sync rank --tolerance 18446744073709551615",
+            sync(ProgramName::Rank {
+                tolerance: 18446744073709551615,
+            }),
+        ),
+        (
+            "check sync tree --source 7",
+            sync(ProgramName::Tree { source: 7 }),
+        ),
+        ("check async components", serial(ProgramName::Components)),
+        ("check async colour --serial", serial(ProgramName::Colour)),
+        (
+            "check async sssp --source 0",
+            serial(ProgramName::Sssp { source: 0 }),
+        ),
+        (
+            "check async rank --serial --tolerance 0",
+            serial(ProgramName::Rank { tolerance: 0 }),
+        ),
+        (
+            "check async tree --source 7",
+            serial(ProgramName::Tree { source: 7 }),
+        ),
+        (
+            "check async components --format tsv --fuel 4294967295",
+            RunJob {
+                engine: Engine::Serial { fuel: 4294967295 },
+                format: Format::Tsv,
+                ..serial(ProgramName::Components)
+            },
+        ),
+        (
+            "check async components --serial --fuel 0",
+            RunJob {
+                engine: Engine::Serial { fuel: 0 },
+                ..serial(ProgramName::Components)
+            },
+        ),
+    ];
+    for (text, run) in rows {
+        let words = words_of(rt.alloc(), text)?;
+        assert_eq!(rt; read_words(&words), Ok(Job::Check(run)), "{text}");
+    }
+    Ok(())
+}
+
+#[test]
+fn words_of_a_check_have_their_place(rt: HostRuntime) -> Result<(), Fail> {
+    let rows = [
+        ("Check sync components", 1),
+        ("check", 2),
+        ("check components", 2),
+        ("check check sync components", 2),
+        ("check --format tsv", 2),
+        ("check sync", 3),
+        ("check async", 3),
+        ("check sync async", 3),
+        ("check sync check", 3),
+        ("check sync flow", 3),
+        ("check async --serial", 3),
+        ("sync check components", 2),
+        ("sync components check", 3),
+        ("check sync sssp", 4),
+        ("check async sssp", 4),
+        ("check async sssp --serial", 5),
+        ("check sync components --serial", 4),
+        ("check sync components --fuel 1", 4),
+        ("check sync colour --source 1", 4),
+        ("check async components --rounds 1", 4),
+        ("check async components --serial 1", 5),
+        ("check async components --fuel", 5),
+        ("check async components --fuel 4294967296", 5),
+        ("check async tree --source 1 --serial --source 1", 7),
+        ("check sync tree --format tsv --rounds 5", 8),
+    ];
+    for (text, place) in rows {
+        let words = words_of(rt.alloc(), text)?;
+        assert_eq!(rt; read_words(&words), Err(Usage { place }), "{text}");
+    }
+    Ok(())
+}
+
+#[test]
 fn options_set_what_they_say_in_any_order(rt: HostRuntime) -> Result<(), Fail> {
     let colour = sync(ProgramName::Colour);
     let components = serial(ProgramName::Components);
@@ -128,6 +224,7 @@ fn words_that_name_no_job_have_their_place(rt: HostRuntime) -> Result<(), Fail> 
         ("", 1),
         ("components", 1),
         ("syn", 1),
+        ("demo 0 7", 1),
         ("Sync components", 1),
         ("sync", 2),
         ("async", 2),
@@ -138,6 +235,7 @@ fn words_that_name_no_job_have_their_place(rt: HostRuntime) -> Result<(), Fail> 
         ("sync components rank", 3),
         ("sync components ", 3),
         ("sync components --colours 2", 3),
+        ("sync colour --cache", 3),
         ("sync components --format=tsv", 3),
         ("sync sssp", 3),
         ("sync tree", 3),
