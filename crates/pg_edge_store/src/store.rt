@@ -142,9 +142,10 @@ impl EdgeStore {
         })
     }
 
-    /// How many edges there are.
+    /// How many edges there are. Each has a word.
     pub fn len(&self) -> u32
-        ensures { result ≡ length self.now.numbers }
+        ensures value { result ≡ length self.now.numbers }
+        ensures words { length self.now.words ≡ length self.now.numbers }
     {
         self.numbers.len() as u32
     }

@@ -30,7 +30,7 @@ use Rattle.pg_gather.specs.Shares.{IsShareOf}
 use Rattle.pg_gather.proofs.Reading.{replica_at, around_each}
 
 -- an edge is at each of its ends
-at_end : (side : Side) (edge : Edge) → is_at (end_of side edge) edge ≡ true
+pub at_end : (side : Side) (edge : Edge) → is_at (end_of side edge) edge ≡ true
 at_end Source edge = ap (λ b. b || (edge.dst == edge.src)) (eq-eqb edge.src edge.src refl)
 at_end Target edge = ap (λ b. (edge.src == edge.dst) || b) (eq-eqb edge.dst edge.dst refl) ∙ or_true (edge.src == edge.dst)
   where
@@ -84,13 +84,13 @@ replica_is vertices values v up has =
 
 module _ {Acc Carry : Type 0} (p : Program Acc Carry) (g : Multigraph) (cut : Division) (worker : ℕ) (s : Configuration) (store : Store) (mirrors : Mirrors)
     (ok : IsMultigraph g) (is : IsCutOf g cut) (within : worker < cut.workers) (share : IsShareOf g cut worker s store mirrors) where
-  word_is : (i : ℕ) → i < length store.numbers → get_or store.words i 0 ≡ get_or s.edges (get_or store.numbers i 0) 0
+  pub word_is : (i : ℕ) → i < length store.numbers → get_or store.words i 0 ≡ get_or s.edges (get_or store.numbers i 0) 0
   word_is i h = ap (λ ws. get_or ws i 0) share.words ∙ get_or-map (slice_index s.edges) store.numbers i 0 0 h
 
-  vertices_are : mirrors.vertices ≡ vertices_on cut worker
+  pub vertices_are : mirrors.vertices ≡ vertices_on cut worker
   vertices_are = ap (λ (m : Mirrors). m.vertices) share.replicas
 
-  all_readable : All (IsReadableAt g mirrors) store.numbers
+  pub all_readable : All (IsReadableAt g mirrors) store.numbers
   all_readable = rw share.edges.numbers (edges_readable g cut worker is within ok mirrors vertices_are)
 
   -- a share can be read
@@ -110,7 +110,7 @@ module _ {Acc Carry : Type 0} (p : Program Acc Carry) (g : Multigraph) (cut : Di
           subst p.IsDatum (sym value) (fit.values.each v (omega (arith, vertices_inside cut worker i 0 h, is.count)))
 
   -- each replica has the datum of the state
-  datum_is : (v : ℕ) → Contains mirrors.vertices v → replica_of mirrors v ≡ datum_in s.values v
+  pub datum_is : (v : ℕ) → Contains mirrors.vertices v → replica_of mirrors v ≡ datum_in s.values v
   datum_is v has = ap (λ m. replica_of m v) share.replicas ∙ replica_is (vertices_on cut worker) s.values v (vertices_rise cut worker) (rw vertices_are at has)
 
   -- an edge that is read here is the edge of the state

@@ -12,7 +12,7 @@ use pg_law::{Datum, Near, VertexProgram};
 use pg_mirrors::MirrorTable;
 
 /// The datum of a vertex that has a replica.
-fn replica_datum(mirrors: &MirrorTable, v: u32) -> Datum
+pub fn replica_datum(mirrors: &MirrorTable, v: u32) -> Datum
     requires ascending { IsStrictlyIncreasing mirrors.now.vertices }
     requires replica { Contains mirrors.now.vertices v }
     ensures { result ≡ replica_of mirrors.now v }

@@ -7,7 +7,7 @@ mod graph;
 mod lines;
 mod part;
 
-pub use error::{InputError, Which};
+pub use error::{InputError, Which, from_cut};
 pub use graph::read_graph;
 pub use part::{Part, read_part};
 

@@ -9,6 +9,7 @@ mod read;
 mod write;
 
 pub use line::{LastLine, ReportLine};
+pub use put::put_line;
 pub use read::read_report_line;
 pub use write::{write_head, write_tail};
 

@@ -18,7 +18,8 @@ pub fn put_ended(buf: &mut [u8; 128], line: ReportLine) -> usize
     put_text(buf, end, b"\n")
 }
 
-fn put_line(buf: &mut [u8; 128], line: ReportLine) -> usize
+/// Puts a line at the front, without its line feed, and answers where it ends.
+pub fn put_line(buf: &mut [u8; 128], line: ReportLine) -> usize
     ensures room { result ≤ 127 }
     ensures text { take result buf.new ≡ line_text line }
 {

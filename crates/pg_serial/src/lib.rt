@@ -10,6 +10,7 @@ mod serial;
 mod signal_set;
 mod writing;
 
-pub use execution::execute;
+pub use execution::{execute, execute_signalled};
 pub use replaying::{Replayed, replay};
+pub use scatter::Sent;
 pub use serial::run_serial;
