@@ -1,0 +1,10 @@
+pub mod Reading
+pub mod Visiting
+pub mod Skipping
+pub mod Receiving
+pub mod Applying
+pub mod Taking
+pub mod Scattering
+pub mod Leading
+pub mod Caching
+pub mod Rounding

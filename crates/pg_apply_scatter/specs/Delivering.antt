@@ -1,0 +1,48 @@
+-- What the vertices receive of all that is sent.
+use Rattle.std.specs.Prelude.{◌≡◌, ℕ, ◌<◌, ◌==◌, cond, Option, List, length, slice_index_or, fold}
+use Rattle.pg_law.specs.Program.{Program}
+use Rattle.pg_law.specs.Laws.{IsOptional}
+use Rattle.pg_law.specs.Configuration.{message_in}
+use Rattle.pg_law.specs.Round.{join}
+use Rattle.pg_delta.specs.declared.cell.CacheCell.{CacheCell}
+use Rattle.pg_delta.specs.Cell.{IsCell, cleared, posted}
+use Rattle.pg_apply_scatter.specs.declared.sent.Sent.{Sent}
+
+abbrev pub cell_in : {A : Type 0} → List (CacheCell A) → ℕ → CacheCell A
+cell_in cells v = slice_index_or cells v cleared
+
+module _ {Acc Carry : Type 0} (p : Program Acc Carry) where
+  -- a vertex's message with a signal, and its cell with a delta, where they are sent to it
+  abbrev pub with_signal : ℕ → Option ℕ → Sent Acc → Option ℕ
+  with_signal v message sent = cond (sent.to == v) (join p.combine message sent.signal) message
+
+  abbrev pub with_delta : ℕ → CacheCell Acc → Sent Acc → CacheCell Acc
+  with_delta v cell sent = cond (sent.to == v) (posted p.sum cell sent.delta) cell
+
+  -- the same for all that stands in a list, and in several lists, one after another
+  abbrev pub signals_of : ℕ → Option ℕ → List (Sent Acc) → Option ℕ
+  signals_of v message list = fold (with_signal v) message list
+
+  abbrev pub deltas_of : ℕ → CacheCell Acc → List (Sent Acc) → CacheCell Acc
+  deltas_of v cell list = fold (with_delta v) cell list
+
+  abbrev pub message_from : ℕ → Option ℕ → List (List (Sent Acc)) → Option ℕ
+  message_from v message lists = fold (signals_of v) message lists
+
+  abbrev pub cell_from : ℕ → CacheCell Acc → List (List (Sent Acc)) → CacheCell Acc
+  cell_from v cell lists = fold (deltas_of v) cell lists
+
+  -- each message is combined with the signals for its vertex
+  abbrev pub AreCombined : List (List (Sent Acc)) → List (Option ℕ) → List (Option ℕ) → Type 0
+  AreCombined lists old new = (v : ℕ) → v < length old → message_in new v ≡ message_from v (message_in old v) lists
+
+  -- each cell has the deltas for its vertex posted
+  abbrev pub ArePosted : List (List (Sent Acc)) → List (CacheCell Acc) → List (CacheCell Acc) → Type 0
+  ArePosted lists old new = (v : ℕ) → v < length old → cell_in new v ≡ cell_from v (cell_in old v) lists
+
+  -- all are the program's
+  abbrev pub AreMessagesOf : List (Option ℕ) → Type 0
+  AreMessagesOf messages = (v : ℕ) → v < length messages → IsOptional p.IsMessage (message_in messages v)
+
+  abbrev pub AreCellsOf : List (CacheCell Acc) → Type 0
+  AreCellsOf cells = (v : ℕ) → v < length cells → IsCell p (cell_in cells v)

@@ -1,0 +1,7 @@
+pub mod Applying
+pub mod Pushing
+pub mod Sending
+pub mod Places
+pub mod Delivering
+pub mod Halves
+pub mod Caches

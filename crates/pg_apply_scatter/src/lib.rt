@@ -1,0 +1,20 @@
+//! The second half of a round, in parts: apply at the masters, push, scatter by workers, deliver.
+#![tactic(auto)]
+
+mod apply;
+mod delivery;
+mod laws;
+mod near;
+mod push;
+mod scatter;
+mod sent;
+#[cfg(test)]
+mod tests;
+mod visit;
+
+pub use apply::apply_masters;
+pub use delivery::deliver;
+pub use laws::{cells_follow, masters_become, parts_are_a_round, pushes_share, workers_scatter};
+pub use push::push_mirrors;
+pub use scatter::scatter_worker;
+pub use sent::Sent;

@@ -1,0 +1,144 @@
+//! What one worker scatters.
+ghost use Rattle.std.specs.Prelude.{◌≡◌, length, All, IfOk, IfSome, OnOk};
+ghost use Rattle.pg_law.specs.Carries.{AreCarries};
+ghost use Rattle.pg_edge_store.specs.Store.{IsOver};
+ghost use Rattle.pg_gather.specs.Partials.{IsReadable};
+ghost use Rattle.pg_apply_scatter.specs.Places.{ArePlaces};
+ghost use Rattle.pg_apply_scatter.specs.Sending.{IsSentIn, words_after, sent_from};
+
+use crate::sent::Sent;
+use crate::visit::visit_place;
+use pg_edge_store::EdgeStore;
+use pg_graph::Graph;
+use pg_law::{VertexProgram, laws_of};
+use pg_mirrors::MirrorTable;
+use std::alloc::{AllocError, Global};
+
+/// Visits all edges of a worker, ascending. A visit for a vertex without a carry changes nothing.
+fn scatter_all<P: VertexProgram>(
+    alloc: Global,
+    program: &P,
+    graph: &Graph,
+    store: &mut EdgeStore,
+    mirrors: &MirrorTable,
+    carries: &[Option<P::Carry>],
+) -> Result<Vec<Sent<P::Acc>>, AllocError>
+    requires readable { IsReadable (P.meaning program.now) graph.now store.old mirrors.now }
+    requires carries { AreCarries (P.meaning program.now) graph.now carries.now }
+    ensures words { let p = P.meaning program.now in OnOk result (store.new ≡ record store.old {
+      words = words_after p graph.now mirrors.now carries.now store.old;
+    }) }
+    ensures sent { let p = P.meaning program.now in IfOk result (λ sent.
+        sent.items ≡ sent_from p graph.now mirrors.now carries.now store.old) }
+{
+    let mut sent = Vec::new(alloc);
+    for place in 0..store.len() {
+        visit_place(
+            alloc, program, graph, store, mirrors, carries, place, &mut sent,
+        )?;
+    }
+    Ok(sent)
+}
+
+/// The places of the edges over which the vertices with a carry scatter, vertex by vertex. None if
+/// they are more than a limit.
+fn places_of<P: VertexProgram>(
+    alloc: Global,
+    program: &P,
+    graph: &Graph,
+    store: &EdgeStore,
+    carries: &[Option<P::Carry>],
+    limit: usize,
+) -> Result<Option<Vec<u32>>, AllocError>
+    requires over { IsOver graph.now store.now }
+    requires carries { length carries.now ≡ length graph.now.ids }
+    ensures { let p = P.meaning program.now in IfOk result (λ found. IfSome found (λ places.
+        ArePlaces graph.now store.now.numbers p.scatter_edges carries.now
+        (length graph.now.ids) places.items)) }
+{
+    let dir = program.scatter_edges();
+    let mut places = Vec::new(alloc);
+    for v in 0..graph.vertices() {
+        if carries[v as usize].is_none() {
+            continue;
+        }
+        let around = store.around(v, dir).places;
+        if around.len() > limit.saturating_sub(places.len()) {
+            return Ok(None);
+        }
+        places.extend_from_slice(around)?;
+    }
+    Ok(Some(places))
+}
+
+/// Visits the edges at these places, ascending. An edge that two vertices scatter over is listed
+/// twice and visited once.
+fn scatter_places<P: VertexProgram>(
+    alloc: Global,
+    program: &P,
+    graph: &Graph,
+    store: &mut EdgeStore,
+    mirrors: &MirrorTable,
+    carries: &[Option<P::Carry>],
+    mut places: Vec<u32>,
+) -> Result<Vec<Sent<P::Acc>>, AllocError>
+    requires readable { IsReadable (P.meaning program.now) graph.now store.old mirrors.now }
+    requires carries { AreCarries (P.meaning program.now) graph.now carries.now }
+    requires places { let p = P.meaning program.now in
+        ArePlaces graph.now store.old.numbers p.scatter_edges carries.now
+        (length graph.now.ids) places.items }
+    ensures words { let p = P.meaning program.now in OnOk result (store.new ≡ record store.old {
+      words = words_after p graph.now mirrors.now carries.now store.old;
+    }) }
+    ensures sent { let p = P.meaning program.now in IfOk result (λ sent.
+        sent.items ≡ sent_from p graph.now mirrors.now carries.now store.old) }
+{
+    let _ = graph.vertices();
+    let _ = store.len();
+    places.sort_unstable();
+    let mut sent = Vec::new(alloc);
+    let mut next = 0;
+    let ascending = places.as_slice();
+    for place in ascending {
+        if *place < next {
+            continue;
+        }
+        visit_place(
+            alloc, program, graph, store, mirrors, carries, *place, &mut sent,
+        )?;
+        next = *place + 1;
+    }
+    Ok(sent)
+}
+
+/// Visits the edges of a worker, ascending: each for its source first, and then for its target,
+/// where that vertex has a carry and the edge is a scatter edge of it.
+///
+/// The answer is what the visits send, in this order, and the store has the words after them. After
+/// `Err`, which is want of memory, some words may be those before and some those after.
+pub fn scatter_worker<P: VertexProgram>(
+    alloc: Global,
+    program: &P,
+    graph: &Graph,
+    store: &mut EdgeStore,
+    mirrors: &MirrorTable,
+    carries: &[Option<P::Carry>],
+) -> Result<Vec<Sent<P::Acc>>, AllocError>
+    requires readable { IsReadable (P.meaning program.now) graph.now store.old mirrors.now }
+    requires carries { AreCarries (P.meaning program.now) graph.now carries.now }
+    ensures words { let p = P.meaning program.now in OnOk result (store.new ≡ record store.old {
+      words = words_after p graph.now mirrors.now carries.now store.old;
+    }) }
+    ensures sent { let p = P.meaning program.now in IfOk result (λ sent.
+        sent.items ≡ sent_from p graph.now mirrors.now carries.now store.old) }
+    ensures own { IfOk result (λ sent.
+        All (IsSentIn (P.meaning program.now) (length graph.now.ids)) sent.items) }
+{
+    laws_of(program);
+    let _ = graph.vertices();
+    let limit = store.len() as usize / 4;
+    match places_of(alloc, program, graph, store, carries, limit)? {
+        Some(places) => scatter_places(alloc, program, graph, store, mirrors, carries, places),
+        None => scatter_all(alloc, program, graph, store, mirrors, carries),
+    }
+}

@@ -1,0 +1,134 @@
+//! An edge of a worker, visited for its source first, and then for its target.
+ghost use Rattle.std.specs.Prelude.{◌≡◌, ◌<◌, ◌++◌, length, slice_set, IfOk, OnOk};
+ghost use Rattle.pg_law.specs.Carries.{AreCarries, IsCarried};
+ghost use Rattle.pg_law.specs.Round.{IsSent, word_after};
+ghost use Rattle.pg_gather.specs.Partials.{IsReadable, IsReadableAt};
+ghost use Rattle.pg_apply_scatter.specs.Sending.{AreReplicas, near_with as near_from_here};
+ghost use Rattle.pg_apply_scatter.specs.Sending.{scatter_near, sent_to, final_at, sent_at};
+
+use crate::near::near_with;
+use crate::sent::Sent;
+use pg_edge_store::EdgeStore;
+use pg_graph::{Graph, Side};
+use pg_law::{Scattered, VertexProgram, laws_of};
+use pg_mirrors::MirrorTable;
+use std::alloc::{AllocError, Global};
+
+/// The word of an edge after a visit.
+fn word_of<A>(old: u64, scattered: &Option<Scattered<A>>) -> u64
+    ensures { result ≡ word_after old scattered.now }
+{
+    match scattered {
+        None => old,
+        Some(scattered) => scattered.edge,
+    }
+}
+
+/// What an end of an edge with this word scatters, where the vertex there has this carry.
+fn scatter_from<P: VertexProgram>(
+    alloc: Global,
+    program: &P,
+    graph: &Graph,
+    mirrors: &MirrorTable,
+    side: Side,
+    e: u32,
+    word: u64,
+    carry: Option<P::Carry>,
+) -> Result<Option<Scattered<P::Acc>>, AllocError>
+    requires replicas { AreReplicas (P.meaning program.now) mirrors.now }
+    requires edge { IsReadableAt graph.now mirrors.now e }
+    requires word { (P.meaning program.now).IsWord word }
+    requires carry { IsCarried (P.meaning program.now) carry }
+    ensures value { IfOk result (λ scattered. scattered ≡ scatter_near (P.meaning program.now)
+        (near_from_here graph.now mirrors.now side e word) carry) }
+    ensures own { IfOk result (IsSent (P.meaning program.now)) }
+{
+    laws_of(program);
+    match carry {
+        None => Ok(None),
+        Some(carry) => {
+            if program.scatter_edges().takes(side) {
+                let near = near_with(program, graph, mirrors, side, e, word);
+                let scattered = program.scatter(alloc, near, carry)?;
+                Ok(Some(scattered))
+            } else {
+                Ok(None)
+            }
+        }
+    }
+}
+
+/// Appends what a visit sends to the vertex at the other end.
+fn push_sent<A: Drop>(
+    sent: &mut Vec<Sent<A>>,
+    to: u32,
+    scattered: Option<Scattered<A>>,
+) -> Result<(), AllocError>
+    ensures { OnOk result (sent.new.items ≡ sent.old.items ++ sent_to to scattered) }
+{
+    match scattered {
+        None => Ok(()),
+        Some(scattered) => {
+            sent.push(Sent {
+                to,
+                signal: scattered.signal,
+                delta: scattered.delta,
+            })?;
+            Ok(())
+        }
+    }
+}
+
+/// Visits the edge at a place of the store, for its source first, and then for its target.
+pub fn visit_place<P: VertexProgram>(
+    alloc: Global,
+    program: &P,
+    graph: &Graph,
+    store: &mut EdgeStore,
+    mirrors: &MirrorTable,
+    carries: &[Option<P::Carry>],
+    place: u32,
+    sent: &mut Vec<Sent<P::Acc>>,
+) -> Result<(), AllocError>
+    requires readable { IsReadable (P.meaning program.now) graph.now store.old mirrors.now }
+    requires carries { AreCarries (P.meaning program.now) graph.now carries.now }
+    requires place { place < length store.old.numbers }
+    ensures words { let p = P.meaning program.now in OnOk result (store.new ≡ record store.old {
+      words = slice_set store.old.words place
+          (final_at p graph.now mirrors.now carries.now store.old place);
+    }) }
+    ensures sent { let p = P.meaning program.now in OnOk result (sent.new.items ≡
+        sent.old.items ++ sent_at p graph.now mirrors.now carries.now store.old place) }
+    ensures readable { OnOk result
+        (IsReadable (P.meaning program.now) graph.now store.new mirrors.now) }
+{
+    laws_of(program);
+    let e = store.edge(place);
+    let edge = graph.edges()[e as usize];
+    let word = store.word(place);
+    let source = scatter_from(
+        alloc,
+        program,
+        graph,
+        mirrors,
+        Side::Source,
+        e,
+        word,
+        carries[edge.src as usize],
+    )?;
+    let between = word_of(word, &source);
+    let target = scatter_from(
+        alloc,
+        program,
+        graph,
+        mirrors,
+        Side::Target,
+        e,
+        between,
+        carries[edge.dst as usize],
+    )?;
+    store.set_word(place, word_of(between, &target));
+    push_sent(sent, edge.dst, source)?;
+    push_sent(sent, edge.src, target)?;
+    Ok(())
+}
