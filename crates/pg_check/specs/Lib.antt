@@ -1,0 +1,5 @@
+pub mod Course
+pub mod Outcomes
+pub mod Reports
+pub mod Right
+pub mod Verdicts

@@ -1,0 +1,18 @@
+//! Whether a report that follows a graph text is right.
+#![tactic(auto)]
+
+mod checking;
+mod compare;
+mod course;
+mod entry;
+pub mod laws;
+mod place;
+#[cfg(test)]
+mod sample;
+mod tail;
+#[cfg(test)]
+mod tests;
+mod verdict;
+
+pub use checking::check;
+pub use verdict::Verdict;
