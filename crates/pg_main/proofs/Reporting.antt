@@ -18,9 +18,9 @@ use Rattle.pg_words.specs.declared.job.ProgramName.TheVariants.{Components, Colo
 use Rattle.pg_words.specs.Programs.{is_wide}
 use Rattle.pg_report.specs.declared.line.LastLine.{LastLine}
 use Rattle.pg_report.specs.Report.{journal_text, head_text, tail_text}
-use Rattle.pg_main.specs.Answers.{Reports, IsLate, refusal_of}
+use Rattle.pg_main.specs.Answers.{Reports, refusal_of}
 use Rattle.pg_main.specs.Counters.{ArePresent, FirstTakes}
-use Rattle.pg_main.specs.Jobs.{Outcome, outcome_with, outcome_of, text_of, named_text, engine_name, HasJournalOf}
+use Rattle.pg_check.specs.Outcomes.{Outcome, outcome_with, outcome_of, text_of, named_text, engine_name, HasJournalOf}
 use Rattle.pg_main.specs.declared.refusal.Refusal.{Refusal}
 use Rattle.pg_main.specs.declared.refusal.Refusal.TheVariants.{WriteFault, Memory}
 use Rattle.pg_main.proofs.Sending.{sent_part, sent_front, sent_rest}

@@ -1,5 +1,5 @@
 -- What a job computes on the graph of its text, and what is said of its output.
-use Rattle.std.specs.Prelude.{◌≡◌, ℕ, List, [], length, Option, Some, None, IfSome, if◌then◌else◌}
+use Rattle.std.specs.Prelude.{◌≡◌, ℕ, List, Option, Some, None, IfSome, if◌then◌else◌}
 use Rattle.std.specs.List.{list_any}
 use Rattle.std.specs.Prelude.{◌==◌}
 use Rattle.std.specs.Io.KnownBytes.{append_known}
@@ -8,109 +8,16 @@ use Rattle.pg_base.specs.Writing.{SendsFront}
 use Rattle.pg_graph.specs.Multigraph.{Multigraph}
 use Rattle.pg_input.specs.Reading.{IsGraphOfText, first_event}
 use Rattle.pg_law.specs.declared.values.End.{End}
-use Rattle.pg_law.specs.declared.values.JournalEntry.{JournalEntry}
-use Rattle.pg_law.specs.Configuration.{Configuration, start_state}
-use Rattle.pg_law.specs.Journal.{replay}
-use Rattle.pg_law.specs.Program.{Program}
-use Rattle.pg_law.specs.Rounds.{Run, rounds, end_of}
-use Rattle.pg_colour.specs.Colouring.{colouring}
-use Rattle.pg_paths.specs.Components.{components}
-use Rattle.pg_paths.specs.ShortestPaths.{shortest_paths}
-use Rattle.pg_paths.specs.Trees.{tree}
-use Rattle.pg_rank.specs.PageRank.{page_rank}
-use Rattle.pg_serial.specs.Journals.{gathers_over}
-use Rattle.pg_serial.specs.Serial.{serial_journal, IsSerialJournal}
 use Rattle.pg_words.specs.Names.{Word}
 use Rattle.pg_words.specs.Reading.{job_of}
-use Rattle.pg_words.specs.declared.job.Engine.{Engine}
-use Rattle.pg_words.specs.declared.job.Engine.TheVariants.{Sync, Serial}
 use Rattle.pg_words.specs.declared.job.Job.{Job}
 use Rattle.pg_words.specs.declared.job.Job.TheVariants as job
 use Rattle.pg_words.specs.declared.job.ProgramName.{ProgramName}
 use Rattle.pg_words.specs.declared.job.ProgramName.TheVariants.{Components, Colour, Sssp, Rank, Tree}
 use Rattle.pg_words.specs.declared.job.RunJob.{RunJob}
-use Rattle.pg_words.specs.declared.names.EngineName.{EngineName}
-use Rattle.pg_words.specs.declared.names.EngineName.TheVariants as named
-use Rattle.pg_report.specs.declared.line.LastLine.{LastLine}
-use Rattle.pg_report.specs.Report.{report_text}
 use Rattle.pg_main.specs.Counters.{FirstTakes}
 use Rattle.pg_main.specs.Meanings.{Means}
-
--- what a run leaves: its journal, which rounds don't have, the state, and how it ended
-pub record Outcome : Type 0 where
-  pub journal : List JournalEntry
-  pub state : Configuration
-  pub last : LastLine
-
-abbrev pub after_rounds : Multigraph → Run → Outcome
-after_rounds g run = record {
-  journal = [];
-  state = run.state;
-  last = record {
-    end = end_of g run.state;
-    rounds = Some run.rounds;
-    executions = run.executions;
-    gathers = run.gathers;
-  };
-}
-
-abbrev pub outcome_with : List JournalEntry → Configuration → LastLine → Outcome
-outcome_with journal state last = record { journal = journal; state = state; last = last }
-
-module _ {Acc Carry : Type 0} (p : Program Acc Carry) (g : Multigraph) where
-  abbrev pub after_journal : List JournalEntry → Outcome
-  after_journal journal = record {
-    journal = journal;
-    state = replay p g (start_state p g) journal;
-    last = record {
-      end = end_of g (replay p g (start_state p g) journal);
-      rounds = None;
-      executions = length journal;
-      gathers = gathers_over p g journal;
-    };
-  }
-
-  -- the journal of the serial machine from the start of the program
-  abbrev pub journal_of : ℕ → List JournalEntry
-  journal_of fuel = serial_journal p g (start_state p g) fuel
-
-  -- what a run of the program from its start leaves: bulk-synchronous rounds, or one execution after
-  -- another, each of the signalled vertex of least number
-  abbrev pub outcome_by : Engine → Outcome
-  outcome_by (Sync limit) = after_rounds g (rounds p g (start_state p g) limit)
-  outcome_by (Serial fuel) = after_journal (journal_of fuel)
-
-  -- a serial run has a legal journal, which fits the fuel
-  abbrev pub HasJournal : Engine → Type 0
-  HasJournal (Sync limit) = Unit {0}
-  HasJournal (Serial fuel) = IsSerialJournal p g (start_state p g) fuel (journal_of fuel)
-
--- the same of the program with this name
-abbrev pub outcome_of : ProgramName → Engine → Multigraph → Outcome
-outcome_of Components engine g = outcome_by components g engine
-outcome_of Colour engine g = outcome_by colouring g engine
-outcome_of (Sssp source) engine g = outcome_by (shortest_paths source) g engine
-outcome_of (Rank tolerance) engine g = outcome_by (page_rank tolerance) g engine
-outcome_of (Tree source) engine g = outcome_by (tree source) g engine
-
-abbrev pub HasJournalOf : ProgramName → Engine → Multigraph → Type 0
-HasJournalOf Components engine g = HasJournal components g engine
-HasJournalOf Colour engine g = HasJournal colouring g engine
-HasJournalOf (Sssp source) engine g = HasJournal (shortest_paths source) g engine
-HasJournalOf (Rank tolerance) engine g = HasJournal (page_rank tolerance) g engine
-HasJournalOf (Tree source) engine g = HasJournal (tree source) g engine
-
--- the report of what a run left
-abbrev pub engine_name : Engine → EngineName
-engine_name (Sync limit) = named.Sync
-engine_name (Serial fuel) = named.Async
-
-abbrev pub text_of : ProgramName → Engine → Multigraph → Outcome → List ℕ
-text_of program engine g outcome =
-    report_text (engine_name engine) program g outcome.journal outcome.state outcome.last
-
-abbrev pub named_text : ProgramName → Engine → Multigraph → List ℕ
-named_text name engine g = text_of name engine g (outcome_of name engine g)
+use Rattle.pg_check.specs.Outcomes.{Outcome, outcome_of, HasJournalOf, named_text}
 
 -- what a job leaves on a graph, and its report
 abbrev pub job_outcome : RunJob → Multigraph → Outcome
@@ -169,9 +76,29 @@ pub record IsAbsent (limits : Limits) (id : ℕ) (job : RunJob) (text : List ℕ
   pub graph_of : IsGraphOfText job.format limits text graph
   pub absent : absent_source job graph ≡ Some id
 
-abbrev pub the_run : Job → RunJob
-the_run (job.Run run) = run
+-- what holds of a run and its text, where the text is told; the job is no check
+abbrev pub RunHas : Job → Option (List ℕ) → (RunJob → List ℕ → Type 0) → Type 0
+RunHas (job.Run run) left P = IfSome left (P run)
+RunHas (job.Check run) left P = ⊥
 
--- what holds of the job and of the text, where the words name a job and the text is told
-abbrev pub OfJob : List Word → Option (List ℕ) → (RunJob → List ℕ → Type 0) → Type 0
-OfJob words left P = IfSome (job_of words) (λ job. IfSome left (P (the_run job)))
+-- what holds of a check and its text; the job is no run
+abbrev pub CheckHas : Job → Option (List ℕ) → (RunJob → List ℕ → Type 0) → Type 0
+CheckHas (job.Run run) left P = ⊥
+CheckHas (job.Check run) left P = IfSome left (P run)
+
+-- what holds of a run, or of a check, and its text
+abbrev pub JobHas : Job → Option (List ℕ) → (RunJob → List ℕ → Type 0) → (RunJob → List ℕ → Type 0)
+    → Type 0
+JobHas (job.Run run) left P Q = IfSome left (P run)
+JobHas (job.Check run) left P Q = IfSome left (Q run)
+
+-- the same of the job that the words name
+abbrev pub OfRun : List Word → Option (List ℕ) → (RunJob → List ℕ → Type 0) → Type 0
+OfRun words left P = IfSome (job_of words) (λ job. RunHas job left P)
+
+abbrev pub OfCheck : List Word → Option (List ℕ) → (RunJob → List ℕ → Type 0) → Type 0
+OfCheck words left P = IfSome (job_of words) (λ job. CheckHas job left P)
+
+abbrev pub OfJob : List Word → Option (List ℕ) → (RunJob → List ℕ → Type 0)
+    → (RunJob → List ℕ → Type 0) → Type 0
+OfJob words left P Q = IfSome (job_of words) (λ job. JobHas job left P Q)

@@ -4,7 +4,7 @@ ghost use Rattle.pg_graph.specs.Multigraph.{Multigraph};
 ghost use Rattle.pg_words.specs.declared.job.Engine.{Engine as Machine};
 ghost use Rattle.pg_main.specs.Answers.{Reports};
 ghost use Rattle.pg_main.specs.Counters.{ArePresent};
-ghost use Rattle.pg_main.specs.Jobs.{outcome_by, outcome_of, HasJournal, HasJournalOf};
+ghost use Rattle.pg_check.specs.Outcomes.{outcome_by, outcome_of, HasJournal, HasJournalOf};
 
 use crate::refusal::Refusal;
 use crate::rounds::report_rounds;

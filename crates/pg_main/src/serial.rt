@@ -11,7 +11,7 @@ ghost use Rattle.pg_words.specs.declared.job.Engine.{Engine as Machine};
 ghost use Rattle.pg_words.specs.declared.job.Engine.TheVariants.{Serial};
 ghost use Rattle.pg_main.specs.Answers.{Reports};
 ghost use Rattle.pg_main.specs.Counters.{ArePresent, FirstTakes};
-ghost use Rattle.pg_main.specs.Jobs.{outcome_with, outcome_by, outcome_of, journal_of, HasJournal, HasJournalOf};
+ghost use Rattle.pg_check.specs.Outcomes.{outcome_with, outcome_by, outcome_of, journal_of, HasJournal, HasJournalOf};
 
 use crate::refusal::Refusal;
 use pg_base::Sink;

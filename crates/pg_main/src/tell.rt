@@ -27,7 +27,7 @@ pub fn tell<E: Sink>(err: &mut E, status: Status) -> Result<(), Failed>
         (error_line status) result }
 {
     match status {
-        Status::Quiescent | Status::Spent => write_whole(err, b""),
+        Status::Quiescent | Status::Spent | Status::Confirmed => write_whole(err, b""),
         Status::Usage { place } => write_parts(
             err,
             &[
@@ -55,6 +55,14 @@ pub fn tell<E: Sink>(err: &mut E, status: Status) -> Result<(), Failed>
         Status::NoVertex { id } => write_parts(
             err,
             &[b"no vertex ", Buffer::new().format(id).as_bytes(), b"\n"],
+        ),
+        Status::Rejected { line } => write_parts(
+            err,
+            &[
+                b"rejected at line ",
+                Buffer::new().format(line).as_bytes(),
+                b"\n",
+            ],
         ),
         Status::ReadFault => write_whole(err, b"read fault\n"),
         Status::WriteFault => write_whole(err, b"write fault\n"),

@@ -1,11 +1,8 @@
-use Rattle.std.proofs.Common.{◌≡◌, sym, ◌∙◌, ap, subst, ℕ, List}
-use Rattle.std.specs.Prelude.{Option, Some, None, Err, IfSome}
+use Rattle.std.proofs.Common.{◌≡◌, ◌∙◌}
+use Rattle.std.specs.Prelude.{None}
 use Rattle.std.proofs.lemmas.Result.{err_from_is_err_and}
-use Rattle.std.specs.Io.KnownBytes.{append_known}
-use Rattle.pg_base.specs.Writing.{SendsFront}
 use Rattle.pg_input.specs.Reading.{IsGraphOfText, first_event}
-use Rattle.pg_main.specs.declared.refusal.Refusal.{Refusal}
-use Rattle.pg_main.specs.Jobs.{IsReported, IsReportedInPart, IsMeant, IsAbsent}
+use Rattle.pg_main.specs.Jobs.{IsReported, IsReportedInPart, IsMeant}
 use Rattle.pg_main.proofs.Reports.{if_both}
 use Rattle.pg_main.proofs.Sending.{whole_front}
 use Rattle.pg_main.proofs.job.run_job.Goals as goal

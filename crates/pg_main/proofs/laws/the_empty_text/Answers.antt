@@ -9,7 +9,7 @@ use Rattle.pg_paths.specs.Components.{components}
 use Rattle.std.proofs.lemmas.List.Sorted.{IsPermutation-refl}
 use Rattle.pg_words.specs.declared.job.ProgramName.TheVariants.{Components}
 use Rattle.pg_words.specs.declared.job.Engine.TheVariants.{Sync}
-use Rattle.pg_main.specs.Jobs.{text_of, after_rounds}
+use Rattle.pg_check.specs.Outcomes.{text_of, after_rounds}
 use Rattle.pg_main.proofs.laws.the_empty_text.Goals as goal
 
 pub returns-clause-graph : goal.returns-clause-graph

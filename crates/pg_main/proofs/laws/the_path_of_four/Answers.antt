@@ -5,7 +5,7 @@ use Rattle.std.proofs.lemmas.List.Sorted.{IsPermutation-refl}
 use Rattle.pg_readers.specs.Tokens.{is_blank}
 use Rattle.pg_words.specs.declared.job.ProgramName.TheVariants.{Components}
 use Rattle.pg_words.specs.declared.job.Engine.TheVariants.{Sync}
-use Rattle.pg_main.specs.Jobs.{text_of, after_rounds}
+use Rattle.pg_check.specs.Outcomes.{text_of, after_rounds}
 use Rattle.pg_main.specs.Rows.{path_graph}
 use Rattle.pg_main.proofs.Rows.{path_run}
 use Rattle.pg_main.proofs.laws.the_path_of_four.Goals as goal

@@ -1,7 +1,6 @@
 use Rattle.std.proofs.Common.{◌≡◌, ℕ, List, Bool, true, false, cond, refl, sym, subst}
 use Rattle.pg_graph.specs.Multigraph.{Multigraph, IsMultigraph}
 use Rattle.pg_law.specs.declared.values.Datum.{Datum}
-use Rattle.pg_law.specs.declared.values.End.{End}
 use Rattle.pg_law.specs.declared.values.End.TheVariants.{Quiescent, Spent}
 use Rattle.pg_law.specs.Configuration.{is_quiet}
 use Rattle.pg_law.specs.Rounds.{end_of}
@@ -16,7 +15,7 @@ use Rattle.pg_words.specs.declared.job.Engine.{Engine}
 use Rattle.pg_words.specs.declared.job.Engine.TheVariants.{Sync, Serial}
 use Rattle.pg_words.specs.declared.job.ProgramName.{ProgramName}
 use Rattle.pg_words.specs.declared.job.ProgramName.TheVariants.{Components, Colour, Sssp, Rank, Tree}
-use Rattle.pg_main.specs.Jobs.{Outcome, outcome_by, outcome_of, journal_of}
+use Rattle.pg_check.specs.Outcomes.{Outcome, outcome_by, outcome_of, journal_of}
 use Rattle.pg_main.specs.Meanings.{Means}
 use Rattle.pg_main.proofs.laws.what_quiescence_means.Goals as goal
 

@@ -1,4 +1,4 @@
-use Rattle.std.proofs.Common.{◌≡◌, ◌≤◌, List, ℕ, refl, sym, ◌∙◌, ap, subst, None, Err, arith}
+use Rattle.std.proofs.Common.{◌≡◌, ◌≤◌, List, ℕ, refl, ◌∙◌, ap, subst, None, Err, arith}
 use Rattle.std.specs.Prelude.{Bool}
 use Rattle.std.specs.Io.KnownBytes.{append_known}
 use Rattle.std.proofs.lemmas.Result.{err_from_is_err_and}
@@ -11,7 +11,7 @@ use Rattle.pg_report.specs.Report.{journal_text}
 use Rattle.pg_words.specs.declared.job.Engine.TheVariants.{Serial}
 use Rattle.pg_words.specs.Programs.{is_wide}
 use Rattle.pg_main.specs.Answers.{Reports}
-use Rattle.pg_main.specs.Jobs.{outcome_with, outcome_by, outcome_of}
+use Rattle.pg_check.specs.Outcomes.{outcome_with, outcome_by, outcome_of}
 use Rattle.pg_main.proofs.Reporting.{by_error, no_memory, failed, stopped, nothing_sent, head_front, journal_sent, journal_front, tail_front, tail_whole, done}
 use Rattle.pg_main.proofs.serial.report_serial.Goals as goal
 
