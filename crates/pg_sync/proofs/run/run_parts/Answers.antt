@@ -1,0 +1,49 @@
+use Rattle.std.proofs.Common.{◌≡◌, ◌+◌, ◌<◌, ◌==◌, ℕ, true, false, length, sym, subst, ◌∙◌, ap, arith}
+use Rattle.std.proofs.lemmas.Bool.{eqb-true, eqb-false}
+use Rattle.pg_law.specs.Configuration.{signalled}
+use Rattle.pg_law.proofs.Bounds.{executions_within}
+use Rattle.pg_sync.specs.Going.{IsGoing, IsDone}
+use Rattle.pg_sync.proofs.Runs.{going_first, going_quiet, going_all, going_more, waits_in, waits_count, empty_is}
+use Rattle.pg_sync.proofs.run.run_parts.Goals as goal
+
+pub returns-then-is_empty-clause-done : goal.returns-then-is_empty-clause-done
+returns-then-is_empty-clause-done g c = λ s held.
+    let going = c.loop-round.invariant.going s held in
+    let count = waits_count c.args.graph.now c.loop-round.masters.messages.items going.state c.in_ok-wanted.wanted.items going.held.messages (c.in_ok-wanted.ensures ∙ ap (waits_in c.args.graph.now) c.as_slice.ensures.value) in
+    going_quiet (g.P.VertexProgram.meaning c.args.program.now) c.args.graph.now c.args.cut.now s c.args.limit c.loop-round.round c.loop-round.executions c.loop-round.workers c.loop-round.mirrors c.loop-round.masters.values.items c.loop-round.masters.messages.items going
+    (omega (arith, count, c.in_ok-wanted.wanted.ok, eqb-true _ 0 (sym c.is_empty.ensures ∙ c.if-is_empty.true)))
+
+pub loop-round-preserved : goal.loop-round-preserved
+loop-round-preserved g c =
+    let waits = c.in_ok-wanted.ensures ∙ ap (waits_in c.args.graph.now) c.as_slice.ensures.value in
+    let listed = c.as_slice-listed.ensures.value in
+    let some = eqb-false _ 0 (sym c.is_empty.ensures ∙ c.if-is_empty.false) in
+    let any = c.loop-round.invariant.going c.requires.held.state c.requires.held.held in
+    record {
+      going = λ s held.
+          let going = c.loop-round.invariant.going s held in
+          let count = waits_count c.args.graph.now c.loop-round.masters.messages.items going.state c.in_ok-wanted.wanted.items going.held.messages waits in
+          let At : ℕ → Type 0 = λ n. IsGoing (g.P.VertexProgram.meaning c.args.program.now) c.args.graph.now c.args.cut.now s c.args.limit (c.loop-round.round + 1) (c.loop-round.executions + n) c.one_round.new.workers c.one_round.new.mirrors c.one_round.new.masters.values.items c.one_round.new.masters.messages.items in
+          subst At (sym count ∙ sym (ap length listed))
+          (going_more (g.P.VertexProgram.meaning c.args.program.now) c.args.graph.now c.args.cut.now s c.args.limit c.loop-round.round c.loop-round.executions c.loop-round.workers c.loop-round.mirrors c.loop-round.masters.values.items c.loop-round.masters.messages.items going c.one_round.new.workers c.one_round.new.mirrors c.one_round.new.masters.values.items c.one_round.new.masters.messages.items c.loop-round-test.true
+          (omega (arith, count, c.in_ok-wanted.wanted.ok, some)) (c.in_ok-one_round.ensures.held going.state going.held));
+      carries = c.in_ok-one_round.ensures.carries;
+      seats = omega (arith, c.one_round.auto.seats, c.loop-round.invariant.seats);
+      present = c.in_ok-one_round.ensures.present;
+      few = omega (
+        arith,
+        ap length listed,
+        waits_count c.args.graph.now c.loop-round.masters.messages.items any.state c.in_ok-wanted.wanted.items any.held.messages waits,
+        executions_within (g.P.VertexProgram.meaning c.args.program.now) c.args.graph.now c.vertices.ensures.graph any.state,
+        c.loop-round.invariant.few,
+      );
+    }
+
+pub returns-clause-done : goal.returns-clause-done
+returns-clause-done g c = λ s held.
+    let going = c.loop-round.invariant.going s held in
+    let count = waits_count c.args.graph.now c.loop-round.masters.messages.items going.state c.in_ok-wanted-2.wanted.items going.held.messages (c.in_ok-wanted-2.ensures ∙ ap (waits_in c.args.graph.now) c.as_slice-2.ensures.value) in
+    let all : c.loop-round.round ≡ c.args.limit = omega (arith, c.loop-round-test.false, c.loop-round.auto.round-end) in
+    let Done : ℕ → Type 0 = λ n. IsDone (g.P.VertexProgram.meaning c.args.program.now) c.args.graph.now c.args.cut.now s c.args.limit n c.loop-round.executions c.loop-round.workers c.loop-round.mirrors c.loop-round.masters.values.items c.loop-round.masters.messages.items c.end_by-end.result in
+    subst Done all (going_all (g.P.VertexProgram.meaning c.args.program.now) c.args.graph.now c.args.cut.now s c.args.limit c.loop-round.round c.loop-round.executions c.loop-round.workers c.loop-round.mirrors c.loop-round.masters.values.items c.loop-round.masters.messages.items going
+    c.is_empty-2.result all (empty_is c.in_ok-wanted-2.wanted.items _ c.is_empty-2.result (sym c.in_ok-wanted-2.wanted.ok.0) c.is_empty-2.ensures ∙ ap (λ n. n == 0) count) c.end_by-end.result c.end_by-end.ensures)

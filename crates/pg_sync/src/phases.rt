@@ -1,0 +1,101 @@
+//! The two phases in which the workers run side by side.
+ghost use Rattle.std.specs.Prelude.{◌≡◌, ◌<◌, ◌≤◌, ℕ, length, slice_index_or, All, IsSome};
+ghost use Rattle.pg_law.specs.Carries.{AreCarries};
+ghost use Rattle.pg_gather.specs.Partials.{IsReadable};
+ghost use Rattle.pg_apply_scatter.specs.Pushing.{table_at};
+ghost use Rattle.pg_sync.specs.declared.worker.Scattering.{Scattering};
+ghost use Rattle.pg_sync.specs.Phases.{Seat as SeatOf, HasGathered, HasScattered, AreReadable};
+
+use crate::worker::{Scattering, Seat, gather};
+use pg_base::Gate;
+use pg_graph::Graph;
+use pg_law::VertexProgram;
+use pg_mirrors::MirrorTable;
+use std::alloc::Global;
+use std::sync::ledger::Ledger;
+use std::thread;
+use std::thread::Threads;
+
+/// Every worker gathers for the wanted vertices, in a thread of its own. Each passes the gate once.
+///
+/// `seats[w]`, `scatterings[w]` and `mirrors[w]` are of the worker `w`.
+pub fn gather_phase<R: Threads + Sync, P: VertexProgram, G: Gate, L: Ledger + Send>(
+    rt: &R,
+    alloc: Global,
+    program: &P,
+    graph: &Graph,
+    seats: &mut [Seat<P::Acc, L>],
+    scatterings: &[Scattering<P::Acc>],
+    mirrors: &[MirrorTable],
+    wanted: &[u32],
+    gate: &G,
+)
+    requires steps { All (λ w. IsSome w.0) seats.old }
+    requires few { length seats.old ≤ 64 }
+    requires stores { length scatterings.now ≡ length seats.old }
+    requires tables { length mirrors.now ≡ length seats.old }
+    requires readable { AreReadable (P.meaning program.now) graph.now scatterings.now mirrors.now }
+    ensures { let p = P.meaning program.now in
+        (w : ℕ) (d : SeatOf P.Acc) (e : Scattering P.Acc) → w < length seats.old →
+        HasGathered p graph.now (slice_index_or scatterings.now w e).store
+        (table_at mirrors.now w) wanted.now
+        (slice_index_or seats.old w d) (slice_index_or seats.new w d) }
+{
+    if !seats.is_empty() {
+        let count = seats.len();
+        thread::for_each_mut(
+            rt,
+            seats,
+            count,
+            &|w: usize, seat: &mut Seat<P::Acc, L>|
+                requires { (w < 64) × (w < length mirrors.now) × (w < length scatterings.now) × (IsSome seat.now.0) × (AreReadable (P.meaning program.now) graph.now scatterings.now mirrors.now) }
+                ensures { (e : Scattering P.Acc) → HasGathered (P.meaning program.entry.now) graph.entry.now (slice_index_or scatterings.entry.now w e).store (table_at mirrors.entry.now w) wanted.entry.now seat.entry.now seat.exit.now }
+            {
+                gate.pass(w as u32);
+                gather(
+                    alloc,
+                    program,
+                    graph,
+                    &scatterings[w].store,
+                    &mirrors[w],
+                    wanted,
+                    seat,
+                );
+            },
+        );
+    }
+}
+
+/// Every worker scatters for the vertices with a carry, in a thread of its own.
+pub fn scatter_phase<R: Threads + Sync, P: VertexProgram>(
+    rt: &R,
+    alloc: Global,
+    program: &P,
+    graph: &Graph,
+    scatterings: &mut [Scattering<P::Acc>],
+    mirrors: &[MirrorTable],
+    carries: &[Option<P::Carry>],
+)
+    requires tables { length mirrors.now ≡ length scatterings.old }
+    requires readable { AreReadable (P.meaning program.now) graph.now scatterings.old mirrors.now }
+    requires carries { AreCarries (P.meaning program.now) graph.now carries.now }
+    ensures { let p = P.meaning program.now in
+        (w : ℕ) (d : Scattering P.Acc) → w < length scatterings.old →
+        HasScattered p graph.now (table_at mirrors.now w) carries.now
+        (slice_index_or scatterings.old w d) (slice_index_or scatterings.new w d) }
+{
+    if !scatterings.is_empty() {
+        let count = scatterings.len();
+        thread::for_each_mut(
+            rt,
+            scatterings,
+            count,
+            &|w: usize, one: &mut Scattering<P::Acc>|
+                requires { (w < length mirrors.now) × (IsReadable (P.meaning program.now) graph.now one.now.store (table_at mirrors.now w)) × (AreCarries (P.meaning program.now) graph.now carries.now) }
+                ensures { HasScattered (P.meaning program.entry.now) graph.entry.now (table_at mirrors.entry.now w) carries.entry.now one.entry.now one.exit.now }
+            {
+                one.scatter(alloc, program, graph, &mirrors[w], carries);
+            },
+        );
+    }
+}
