@@ -5,3 +5,4 @@ pub mod Kept
 pub mod Searching
 pub mod Appending
 pub mod Stretches
+pub mod Blocks

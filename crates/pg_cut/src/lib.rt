@@ -3,6 +3,7 @@
 
 mod by_worker;
 mod cut;
+mod directory;
 mod keys;
 mod mix;
 mod rows;

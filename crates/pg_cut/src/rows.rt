@@ -73,7 +73,7 @@ impl Rows {
         }
         starts.push(pairs.len() as u32)?;
         Ok(Rows {
-            keys: Keys::of(keys),
+            keys: Keys::of(alloc, keys)?,
             starts,
             numbers,
         })

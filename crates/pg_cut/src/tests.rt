@@ -1,8 +1,9 @@
-//! The path of four vertices on three workers, a lone vertex, the mix, and rows of three pairs.
-ghost use Rattle.std.specs.Prelude.{IfOk};
+//! The path of four vertices on three workers, a lone vertex, the mix, keys in blocks, and rows of
+//! three pairs.
+ghost use Rattle.std.specs.Prelude.{◌≡◌, IfOk};
 ghost use Rattle.pg_cut.specs.Cut.{IsCutOf};
 
-use crate::{Cut, Rows, random};
+use crate::{Cut, Keys, Rows, random};
 use pg_base::Limits;
 use pg_graph::{Graph, GraphBuilder};
 use pg_law::Steps;
@@ -110,6 +111,65 @@ fn ids_and_seed_are_mixed(rt: HostRuntime) -> Result<(), Fail> {
             assert!(rt; e < graph.edges().len());
             assert_eq!(rt; cut.place(e as u32), *place, "edge {e} of seed {seed}");
         }
+    }
+    Ok(())
+}
+
+/// Keys whose order is tested.
+fn keys_of(rt: &impl Abort, alloc: Global, numbers: &[u32]) -> Result<Keys, Fail>
+    ensures { IfOk result (λ keys. keys ≡ numbers.now) }
+{
+    for i in 1..numbers.len() {
+        assert!(rt; numbers[i - 1] < numbers[i]);
+    }
+    assert!(rt; numbers.len() < 1000);
+    Ok(Keys::of(alloc, Vec::from_slice(alloc, numbers)?)?)
+}
+
+/// Asserts that of the numbers from one to another exactly the keys are found, where they stand.
+fn finds_the_keys(rt: &impl Abort, keys: &Keys, numbers: &[u32], from: u32, to: u32)
+    requires { keys.now ≡ numbers.now }
+{
+    for x in from..to {
+        let place = keys.place(x);
+        assert_eq!(rt; place.is_some(), numbers.contains(&x), "number {x}");
+        if let Some(i) = place {
+            assert_eq!(rt; numbers[i as usize], x, "number {x}");
+        }
+        let mut steps = Steps::<Brand>::new();
+        assert_eq!(rt; keys.find(x, &mut steps), place, "number {x}");
+    }
+}
+
+#[test]
+fn every_key_is_found_and_no_other(rt: HostRuntime) -> Result<(), Fail> {
+    let top = (1 << 22) - 1;
+    let cases: [(&[u32], u32); 6] = [
+        (&[], 200),
+        (&[0], 200),
+        (&[63], 200),
+        (&[3, 5, 70, 300, 301, 999], 1200),
+        (&[0, 63, 64, 127, 128, 191, 192, 320], 500),
+        (&[7, top - 64, top - 63, top], 200),
+    ];
+    for (numbers, to) in cases {
+        let keys = keys_of(&rt, rt.alloc(), numbers)?;
+        finds_the_keys(&rt, &keys, numbers, 0, to);
+        finds_the_keys(&rt, &keys, numbers, top - 200, top + 200);
+        finds_the_keys(&rt, &keys, numbers, u32::MAX - 200, u32::MAX);
+    }
+    Ok(())
+}
+
+#[test]
+fn keys_of_full_blocks_are_found(rt: HostRuntime) -> Result<(), Fail> {
+    for (from, to) in [(0, 64), (64, 128), (60, 200), (1, 192), (128, 193)] {
+        let mut numbers = Vec::new(rt.alloc());
+        for x in from..to {
+            numbers.push(x)?;
+        }
+        let keys = keys_of(&rt, rt.alloc(), numbers.as_slice())?;
+        finds_the_keys(&rt, &keys, numbers.as_slice(), 0, 400);
     }
     Ok(())
 }

@@ -59,7 +59,7 @@ impl MirrorTable {
         let _ = graph.vertices();
         let vertices = cut.vertices_on(worker);
         let own = values_at(alloc, vertices, values)?;
-        let keys = Keys::of(Vec::from_slice(alloc, vertices)?);
+        let keys = Keys::of(alloc, Vec::from_slice(alloc, vertices)?)?;
         Ok(MirrorTable {
             vertices: keys,
             values: own,

@@ -27,7 +27,7 @@ loop-i-preserved c =
           ∙ sym (ap (map (λ (pair : ℕ × ℕ). pair.1)) (take_more pairs i (0, 0) c.loop-i-test.true) ∙ map_push (λ (pair : ℕ × ℕ). pair.1) (take i pairs) (get_or pairs i (0, 0)));
     }
 
-module _ (c : goal.After-of) where
+module _ (c : goal.In_ok-of) where
   all : c.loop-i.i ≡ length c.args.pairs.now
   all = omega arith
 
@@ -37,11 +37,11 @@ module _ (c : goal.After-of) where
   starts_are : c.push-2.new.self.items ≡ c.loop-i.starts.items ++ c.loop-i.i ∷ []
   starts_are = c.in_ok-push-4.ensures.items ∙ ap (λ n. c.loop-i.starts.items ++ n ∷ []) (sym all)
 
-  kept : IsRows c.of.result c.push-2.new.self.items c.loop-i.numbers.items
-  kept = rw (c.of.ensures, starts_are, numbers_are) (rows_kept c.args.pairs.now c.loop-i.keys.items c.loop-i.starts.items c.loop-i.i all c.loop-i.invariant.found)
+  kept : IsRows c.in_ok-of.field-0 c.push-2.new.self.items c.loop-i.numbers.items
+  kept = rw (c.in_ok-of.ensures, starts_are, numbers_are) (rows_kept c.args.pairs.now c.loop-i.keys.items c.loop-i.starts.items c.loop-i.i all c.loop-i.invariant.found)
 
-  table : IsTableOf (row_of c.args.pairs.now) (row_table c.of.result c.push-2.new.self.items c.loop-i.numbers.items)
-  table = rw (c.of.ensures, starts_are, numbers_are) (table_found c.args.pairs.now c.loop-i.keys.items c.loop-i.starts.items c.loop-i.i all c.loop-i.invariant.found)
+  table : IsTableOf (row_of c.args.pairs.now) (row_table c.in_ok-of.field-0 c.push-2.new.self.items c.loop-i.numbers.items)
+  table = rw (c.in_ok-of.ensures, starts_are, numbers_are) (table_found c.args.pairs.now c.loop-i.keys.items c.loop-i.starts.items c.loop-i.i all c.loop-i.invariant.found)
 
 pub invariant_of-result : goal.invariant_of-result
 invariant_of-result c = kept c

@@ -7,8 +7,8 @@ values_at-requires c =
     let inside = vertices_inside c.args.cut.now c.args.worker in
     rw (c.vertices_on-vertices.ensures, c.requires.values, sym c.requires.cut.count) inside
 
-pub of-keys-requires-clause-ascending : goal.of-keys-requires-clause-ascending
-of-keys-requires-clause-ascending c = rw (c.in_ok-from_slice.ensures.items ∙ c.vertices_on-vertices.ensures) (vertices_rise c.args.cut.now c.args.worker)
+pub of-requires-clause-ascending : goal.of-requires-clause-ascending
+of-requires-clause-ascending c = rw (c.in_ok-from_slice.ensures.items ∙ c.vertices_on-vertices.ensures) (vertices_rise c.args.cut.now c.args.worker)
 
-pub of-keys-requires-clause-few : goal.of-keys-requires-clause-few
-of-keys-requires-clause-few c = omega (arith, ap length (c.in_ok-from_slice.ensures.items ∙ c.vertices_on-vertices.ensures), vertices_fewer c.args.cut.now c.args.worker, c.requires.cut.count, c.vertices.ensures.graph.vertex_count)
+pub of-requires-clause-few : goal.of-requires-clause-few
+of-requires-clause-few c = omega (arith, ap length (c.in_ok-from_slice.ensures.items ∙ c.vertices_on-vertices.ensures), vertices_fewer c.args.cut.now c.args.worker, c.requires.cut.count, c.vertices.ensures.graph.vertex_count)
