@@ -1,5 +1,5 @@
 -- The second half of a round, by workers that hold a state.
-use Rattle.std.proofs.Common.{◌≡◌, ◌≢◌, ℕ, zero, suc, ◌+◌, ◌<◌, ◌≤◌, ◌⊎◌, inl, inr, Bool, true, Option, Some, None, Ok, Err, List, [], ◌∷◌, length, get_or, map, refl, sym, subst, ◌∙◌, ap, arith}
+use Rattle.std.proofs.Common.{◌≡◌, ◌≢◌, ℕ, zero, suc, ◌+◌, ◌<◌, ◌≤◌, ◌⊎◌, inl, inr, true, Option, Some, None, Ok, Err, List, [], ◌∷◌, length, get_or, map, refl, sym, subst, ◌∙◌, ap, arith}
 use Rattle.std.specs.Prelude.{All, AllPairs, IfOk, OnOk, Vec, Result}
 use Rattle.std.specs.List.{range_with_len}
 use Rattle.std.specs.declared.alloc.Global.{Global}
@@ -8,16 +8,16 @@ use Rattle.std.proofs.lemmas.List.Elements.{All-map}
 use Rattle.std.proofs.lemmas.Bool.{cases_lt}
 use Rattle.std.proofs.lemmas.List.{get_or-map, get_or_past, length-map, ext_get_or, get_or_default}
 use Rattle.std.proofs.lemmas.List.FromFn.{get_or-map-range_with_len, length-map-range_with_len}
-use Rattle.pg_graph.specs.Multigraph.{Multigraph, IsMultigraph, vertices}
+use Rattle.pg_graph.specs.Multigraph.{Multigraph, IsMultigraph}
 use Rattle.pg_graph.proofs.Numbers.{filter_numbers_each, numbers_below}
 use Rattle.pg_law.specs.declared.values.Datum.{Datum}
 use Rattle.pg_law.specs.declared.values.Applied.{Applied}
 use Rattle.pg_law.specs.Values.{one}
 use Rattle.pg_law.specs.Program.{Program}
-use Rattle.pg_law.specs.Laws.{IsLawful, IsOptional}
+use Rattle.pg_law.specs.Laws.{IsLawful}
 use Rattle.pg_law.specs.Configuration.{Configuration, IsFit, datum_in, message_in, signalled, is_signalled}
 use Rattle.pg_law.specs.Carries.{carry_at, carry_in, AreCarries, IsCarried}
-use Rattle.pg_law.specs.Round.{became_at, AreApplied, IsBecome, datum_after, message_after, outcomes, fresh, values_after, messages_after, scatter_after, round}
+use Rattle.pg_law.specs.Round.{became_at, AreApplied, IsBecome, datum_after, message_after, outcomes, fresh, values_after, messages_after, round}
 use Rattle.pg_law.proofs.Fitting.{outcomes_own, values_after_own, messages_after_own, round_fits}
 use Rattle.pg_cut.specs.Cut.{Division, IsCutOf}
 use Rattle.pg_cut.specs.ByWorker.{lists_in}

@@ -5,10 +5,10 @@ use Rattle.std.specs.List.{range_with_len, AllByRecursion}
 use Rattle.std.specs.declared.alloc.Global.{Global}
 use Rattle.std.proofs.lemmas.Bool.{false≢true}
 use Rattle.std.proofs.lemmas.List.{get_or_default, get_or-map, length-map}
-use Rattle.std.proofs.lemmas.List.Elements.{All-map, All-from_recursion, recursion_from_All}
+use Rattle.std.proofs.lemmas.List.Elements.{All-map}
 use Rattle.std.proofs.lemmas.List.Kept.{AllPairs-filter}
 use Rattle.std.proofs.lemmas.List.FromFn.{length-range_with_len, get_or-range_with_len}
-use Rattle.pg_graph.specs.Multigraph.{Multigraph, IsMultigraph, edges_at, side_at, takes, vertices}
+use Rattle.pg_graph.specs.Multigraph.{Multigraph, IsMultigraph, side_at, takes, vertices}
 use Rattle.pg_graph.proofs.Numbers.{numbers_below, filter_numbers_each}
 use Rattle.pg_graph.proofs.Stored.{edges_passing_below}
 use Rattle.pg_law.specs.declared.values.Datum.{Datum}
@@ -56,6 +56,10 @@ within_part q n (x ∷ xs) all = chosen (q x) (within_part q n xs all.1)
 there : (o : Option ℕ) → is_some o ≡ true → (m : ℕ) × (o ≡ Some m)
 there None is = absurd (false≢true is)
 there (Some m) is = (m, refl)
+
+-- those with a message
+abbrev pub waits_in : Multigraph → List (Option ℕ) → List ℕ
+waits_in g messages = filter (λ v. is_some (message_in messages v)) (vertices g)
 
 numbers_apart : (n : ℕ) → AllPairs (λ a b. a ≢ b) (range_with_len 0 n)
 numbers_apart n = λ i j d lt h. let below : j < n = omega (arith, length-range_with_len 0 n) in

@@ -4,3 +4,8 @@ pub mod Holding
 pub mod Halving
 pub mod Runs
 pub mod Sharing
+pub mod Summing
+pub mod Degrees
+pub mod Raising
+pub mod Putting
+pub mod Path

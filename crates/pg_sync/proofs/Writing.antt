@@ -1,9 +1,8 @@
 -- Those that applied, written one after another.
-use Rattle.std.proofs.Common.{◌≡◌, ◌≢◌, ℕ, suc, ◌+◌, ◌<◌, Bool, true, false, cond, ◌==◌, Option, Some, None, List, [], ◌∷◌, ◌++◌, length, get_or, take, refl, sym, ◌∙◌, ap, arith, ⊎_elim}
-use Rattle.std.specs.Prelude.{All, AllPairs}
-use Rattle.std.proofs.lemmas.Bool.{eq-eqb, ne_eqb, eqb-true, cases_eq, false≢true}
+use Rattle.std.proofs.Common.{◌≡◌, ◌≢◌, ℕ, suc, ◌+◌, ◌<◌, Bool, true, false, cond, ◌==◌, Some, None, List, [], ◌∷◌, ◌++◌, length, get_or, take, refl, sym, ◌∙◌, ap, arith, ⊎_elim}
+use Rattle.std.specs.Prelude.{AllPairs}
+use Rattle.std.proofs.lemmas.Bool.{eq-eqb, ne_eqb, eqb-true, cases_eq}
 use Rattle.std.proofs.lemmas.List.{take_more, get_or-take, length-take, get_or_default}
-use Rattle.pg_law.specs.declared.values.Datum.{Datum}
 use Rattle.pg_law.specs.declared.values.Applied.{Applied}
 use Rattle.pg_law.specs.Configuration.{datum_in, message_in}
 use Rattle.pg_law.specs.Carries.{carry_at, carry_in}

@@ -8,14 +8,16 @@ use Rattle.pg_law.specs.Configuration.{Configuration}
 use Rattle.pg_law.specs.Rounds.{rounds, end_of}
 use Rattle.pg_cut.specs.Cut.{Division}
 use Rattle.pg_mirrors.specs.Mirrors.{Mirrors}
+use Rattle.pg_sync.specs.declared.engine.SyncEnd.{SyncEnd}
 use Rattle.pg_sync.specs.declared.worker.Scattering.{Scattering}
 use Rattle.pg_sync.specs.Held.{IsHeld}
+use Rattle.pg_sync.specs.Counting.{gathers_on, AreRaised}
 
 module _ {Acc Carry : Type 0} (p : Program Acc Carry) (g : Multigraph) (cut : Division)
-    (s : Configuration) (limit : ℕ) (made executions : ℕ) (workers : List (Scattering Acc))
+    (s : Configuration) (limit : ℕ) (made executions gathers : ℕ) (workers : List (Scattering Acc))
     (mirrors : List Mirrors) (data_kept : List Datum) (waiting : List (Option ℕ)) where
   -- after so many of the rounds from s a state is held, from which the rest of them go on
-  pub record IsGoing : Type 0 where
+  pub record IsGoing (before now : List (Option ℕ)) : Type 0 where
     pub state : Configuration
     pub held : IsHeld p g cut state workers mirrors data_kept waiting
     pub same_state : (rounds p g s limit).state ≡ (rounds p g state (limit - made)).state
@@ -23,10 +25,27 @@ module _ {Acc Carry : Type 0} (p : Program Acc Carry) (g : Multigraph) (cut : Di
         ≡ made + (rounds p g state (limit - made)).rounds
     pub same_executions : (rounds p g s limit).executions
         ≡ executions + (rounds p g state (limit - made)).executions
+    pub same_gathers : (rounds p g s limit).gathers
+        ≡ gathers + (rounds p g state (limit - made)).gathers
+    -- the counters took what is taken, and the rest of the rounds adds the rest
+    pub taken : ℕ → ℕ
+    pub raised : AreRaised taken cut.workers before now
+    pub same_taken : (w : ℕ) → gathers_on p g cut s limit w
+        ≡ taken w + gathers_on p g cut state (limit - made) w
 
   -- the rounds from s were made: their state is held, and their numbers are these
   pub record IsDone (end : End) : Type 0 where
     pub held : IsHeld p g cut (rounds p g s limit).state workers mirrors data_kept waiting
     pub rounds_are : made ≡ (rounds p g s limit).rounds
     pub executions_are : executions ≡ (rounds p g s limit).executions
+    pub gathers_are : gathers ≡ (rounds p g s limit).gathers
     pub ends : end ≡ end_of g (rounds p g s limit).state
+
+-- what the rounds from s leave and take
+pub record IsEndOf {Acc Carry : Type 0} (p : Program Acc Carry) (g : Multigraph) (s : Configuration)
+    (limit : ℕ) (end : SyncEnd) : Type 0 where
+  pub state_is : end.state ≡ (rounds p g s limit).state
+  pub rounds_are : end.rounds ≡ (rounds p g s limit).rounds
+  pub executions_are : end.executions ≡ (rounds p g s limit).executions
+  pub gathers_are : end.gathers ≡ (rounds p g s limit).gathers
+  pub ends : end.end ≡ end_of g (rounds p g s limit).state

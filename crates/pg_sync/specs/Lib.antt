@@ -2,5 +2,8 @@ pub mod Phases
 pub mod Held
 pub mod Masters
 pub mod Applying
+pub mod Counting
 pub mod Going
 pub mod Shared
+pub mod Putting
+pub mod Path

@@ -15,7 +15,8 @@ use Rattle.pg_sync.specs.declared.worker.Scattering.{Scattering}
 abbrev pub Seat : Type 0 → Type 0
 Seat Acc = Option ℕ × Option (Vec (ℕ × Acc) Global)
 
-module _ {Acc Carry : Type 0} (p : Program Acc Carry) (g : Multigraph) (s : Store) (m : Mirrors) where
+module _ {Acc Carry : Type 0} (p : Program Acc Carry) (g : Multigraph) (s : Store)
+    (m : Mirrors) where
   -- the sums of the wanted vertices over the worker's own edges, each gather counted
   pub record HasGathered (wanted : List ℕ) (old new : Seat Acc) : Type 0 where
     pub present : IsSome new.0

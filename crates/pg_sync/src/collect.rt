@@ -31,8 +31,10 @@ pub fn sent_of<A: Drop>(
     alloc: Global,
     workers: &mut [Scattering<A>],
 ) -> Result<Vec<Vec<Sent<A>>>, AllocError>
-    ensures sent { IfOk result (λ lists. map Ok lists.items ≡ map (λ worker. worker.sent) workers.old) }
-    ensures stores { map (λ worker. worker.store) workers.new ≡ map (λ worker. worker.store) workers.old }
+    ensures sent { IfOk result (λ lists.
+        map Ok lists.items ≡ map (λ worker. worker.sent) workers.old) }
+    ensures stores { map (λ worker. worker.store) workers.new ≡
+        map (λ worker. worker.store) workers.old }
 {
     let mut lists = Vec::with_capacity(alloc, workers.len())?;
     for w in 0..workers.len() {

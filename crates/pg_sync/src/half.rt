@@ -7,6 +7,7 @@ ghost use Rattle.pg_apply_scatter.specs.Halves.{applied_round};
 ghost use Rattle.pg_law.specs.Round.{round};
 ghost use Rattle.pg_sync.specs.Held.{IsHeld, IsHolding};
 ghost use Rattle.pg_sync.specs.Applying.{IsApplying};
+ghost use Rattle.pg_sync.specs.Counting.{gathers_in_on, counters_of, AreRaised};
 
 use crate::collect::{sent_of, sums_of};
 use crate::masters::{Masters, data_of_applied};
@@ -40,13 +41,19 @@ pub fn apply_part<R: Threads + Sync, P: VertexProgram, G: Gate, L: Ledger + Send
     gate: &G,
 ) -> Result<Vec<(u32, Applied<P::Carry>)>, AllocError>
     requires cut { IsCutOf graph.now _cut.now }
-    requires held { IsHolding (P.meaning program.now) graph.now _cut.now workers.now mirrors.now values.now messages.now }
-    requires wanted { wanted.now ≡ filter (λ v. is_some (message_in messages.now v)) (vertices graph.now) }
+    requires held { IsHolding (P.meaning program.now) graph.now _cut.now workers.now mirrors.now
+        values.now messages.now }
+    requires wanted { wanted.now ≡
+        filter (λ v. is_some (message_in messages.now v)) (vertices graph.now) }
     requires seats { length seats.old ≡ _cut.now.workers }
     requires steps { All (λ seat. IsSome seat.0) seats.old }
     ensures applied { let p = P.meaning program.now in IfOk result (λ applied. (s : Configuration) →
         IsHeld p graph.now _cut.now s workers.now mirrors.now values.now messages.now →
         applied.items ≡ applied_round p graph.now s) }
+    ensures counted { let p = P.meaning program.now in OnOk result ((s : Configuration) →
+        IsHeld p graph.now _cut.now s workers.now mirrors.now values.now messages.now →
+        AreRaised (gathers_in_on p graph.now _cut.now s) _cut.now.workers
+        (counters_of seats.old) (counters_of seats.new)) }
     ensures present { All (λ seat. IsSome seat.0) seats.new }
 {
     laws_of(program);
@@ -72,12 +79,15 @@ pub fn scatter_part<R: Threads + Sync, P: VertexProgram>(
     applied: &[(u32, Applied<P::Carry>)],
 ) -> Result<(), AllocError>
     requires cut { IsCutOf graph.now _cut.now }
-    requires held { IsApplying (P.meaning program.now) graph.now _cut.now workers.old mirrors.old masters.old applied.now }
+    requires held { IsApplying (P.meaning program.now) graph.now _cut.now workers.old mirrors.old
+        masters.old applied.now }
     requires carries { length masters.old.carries.items ≡ length graph.now.ids }
     ensures held { let p = P.meaning program.now in OnOk result ((s : Configuration) →
-        IsHeld p graph.now _cut.now s workers.old mirrors.old masters.old.values.items masters.old.messages.items →
+        IsHeld p graph.now _cut.now s workers.old mirrors.old
+        masters.old.values.items masters.old.messages.items →
         applied.now ≡ applied_round p graph.now s →
-        IsHeld p graph.now _cut.now (round p graph.now s) workers.new mirrors.new masters.new.values.items masters.new.messages.items) }
+        IsHeld p graph.now _cut.now (round p graph.now s) workers.new mirrors.new
+        masters.new.values.items masters.new.messages.items) }
     ensures carries { OnOk result (length masters.new.carries.items ≡ length graph.now.ids) }
 {
     laws_of(program);

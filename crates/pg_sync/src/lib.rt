@@ -2,16 +2,25 @@
 #![tactic(auto)]
 
 mod collect;
+mod degree;
+mod engine;
 mod half;
+pub mod laws;
 mod masters;
 mod phases;
 mod round;
 mod run;
+mod seats;
 mod shares;
+mod words;
 mod worker;
 
+pub use engine::{SyncEnd, SyncEngine};
 pub use masters::Masters;
 pub use round::one_round;
 pub use run::{Ran, run_parts};
 pub use shares::{replicas_of, workers_of};
 pub use worker::{Scattering, Seat};
+
+#[cfg(test)]
+mod tests;

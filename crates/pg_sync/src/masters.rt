@@ -52,9 +52,28 @@ pub fn data_of_applied<C: Copy>(
 }
 
 impl<C: Copy> Masters<C> {
-    ghost use Rattle.std.specs.Prelude.{◌≡◌, ◌≢◌, ◌<◌, ℕ, length, All, AllPairs};
+    ghost use Rattle.std.specs.Prelude.{◌≡◌, ◌≢◌, ◌<◌, ℕ, length, All, AllPairs, IfOk};
     ghost use Rattle.pg_law.specs.Carries.{carry_at};
     ghost use Rattle.pg_sync.specs.Masters.{IsWritten, HaveNone, WritesOne};
+
+    /// The masters with these data and messages. No vertex has a carry.
+    pub fn of(
+        alloc: Global,
+        values: Vec<Datum>,
+        messages: Vec<Option<u64>>,
+    ) -> Result<Masters<C>, AllocError>
+        ensures values { IfOk result (λ masters. masters.values.items ≡ values.items) }
+        ensures messages { IfOk result (λ masters. masters.messages.items ≡ messages.items) }
+        ensures carries { IfOk result (λ masters.
+            length masters.carries.items ≡ length values.items) }
+    {
+        let carries = vec![in alloc; None; values.len()]?;
+        Ok(Masters {
+            values,
+            messages,
+            carries,
+        })
+    }
 
     /// No vertex has a carry.
     fn clear(&mut self)

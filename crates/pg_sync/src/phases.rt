@@ -48,8 +48,14 @@ pub fn gather_phase<R: Threads + Sync, P: VertexProgram, G: Gate, L: Ledger + Se
             seats,
             count,
             &|w: usize, seat: &mut Seat<P::Acc, L>|
-                requires { (w < 64) × (w < length mirrors.now) × (w < length scatterings.now) × (IsSome seat.now.0) × (AreReadable (P.meaning program.now) graph.now scatterings.now mirrors.now) }
-                ensures { (e : Scattering P.Acc) → HasGathered (P.meaning program.entry.now) graph.entry.now (slice_index_or scatterings.entry.now w e).store (table_at mirrors.entry.now w) wanted.entry.now seat.entry.now seat.exit.now }
+                requires { (w < 64) × (w < length mirrors.now) × (w < length scatterings.now) ×
+                    (IsSome seat.now.0) ×
+                    (AreReadable (P.meaning program.now) graph.now scatterings.now mirrors.now) }
+                ensures { (e : Scattering P.Acc) →
+                    HasGathered (P.meaning program.entry.now) graph.entry.now
+                    (slice_index_or scatterings.entry.now w e).store
+                    (table_at mirrors.entry.now w) wanted.entry.now
+                    seat.entry.now seat.exit.now }
             {
                 gate.pass(w as u32);
                 gather(
@@ -91,8 +97,13 @@ pub fn scatter_phase<R: Threads + Sync, P: VertexProgram>(
             scatterings,
             count,
             &|w: usize, one: &mut Scattering<P::Acc>|
-                requires { (w < length mirrors.now) × (IsReadable (P.meaning program.now) graph.now one.now.store (table_at mirrors.now w)) × (AreCarries (P.meaning program.now) graph.now carries.now) }
-                ensures { HasScattered (P.meaning program.entry.now) graph.entry.now (table_at mirrors.entry.now w) carries.entry.now one.entry.now one.exit.now }
+                requires { (w < length mirrors.now) ×
+                    (IsReadable (P.meaning program.now) graph.now one.now.store
+                    (table_at mirrors.now w)) ×
+                    (AreCarries (P.meaning program.now) graph.now carries.now) }
+                ensures { HasScattered (P.meaning program.entry.now) graph.entry.now
+                    (table_at mirrors.entry.now w) carries.entry.now
+                    one.entry.now one.exit.now }
             {
                 one.scatter(alloc, program, graph, &mirrors[w], carries);
             },

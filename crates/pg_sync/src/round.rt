@@ -5,6 +5,7 @@ ghost use Rattle.pg_law.specs.Configuration.{Configuration, message_in};
 ghost use Rattle.pg_law.specs.Round.{round as round_of};
 ghost use Rattle.pg_cut.specs.Cut.{IsCutOf};
 ghost use Rattle.pg_sync.specs.Held.{IsHeld, IsHolding};
+ghost use Rattle.pg_sync.specs.Counting.{gathers_in_on, counters_of, AreRaised};
 
 use crate::half::{apply_part, scatter_part};
 use crate::masters::Masters;
@@ -20,8 +21,9 @@ use std::thread::Threads;
 
 /// A round: the signalled vertices gather, apply and scatter, worker by worker.
 ///
-/// Whatever state the workers and the masters hold before, they hold the one after the round. After
-/// `Err`, which is want of memory, they hold none, and the counters are there.
+/// Whatever state the workers and the masters hold before, they hold the one after the round, and
+/// each counter rises by its worker's gathers. After `Err`, which is want of memory, they hold
+/// none, and the counters are there.
 pub fn one_round<R: Threads + Sync, P: VertexProgram, G: Gate, L: Ledger + Send>(
     rt: &R,
     alloc: Global,
@@ -48,6 +50,11 @@ pub fn one_round<R: Threads + Sync, P: VertexProgram, G: Gate, L: Ledger + Send>
         masters.old.values.items masters.old.messages.items →
         IsHeld p graph.now cut.now (round_of p graph.now s) workers.new mirrors.new
         masters.new.values.items masters.new.messages.items) }
+    ensures counted { let p = P.meaning program.now in OnOk result ((s : Configuration) →
+        IsHeld p graph.now cut.now s workers.old mirrors.old
+        masters.old.values.items masters.old.messages.items →
+        AreRaised (gathers_in_on p graph.now cut.now s) cut.now.workers
+        (counters_of seats.old) (counters_of seats.new)) }
     ensures carries { OnOk result (length masters.new.carries.items ≡ length graph.now.ids) }
     ensures present { All (λ seat. IsSome seat.0) seats.new }
 {

@@ -1,10 +1,12 @@
 //! Rounds over the cut.
-ghost use Rattle.std.specs.Prelude.{◌≡◌, length, cond, All, IfOk, IsSome};
+ghost use Rattle.std.specs.Prelude.{◌≡◌, length, cond, All, IfOk, OnOk, IsSome};
 ghost use Rattle.pg_law.specs.Configuration.{Configuration};
 ghost use Rattle.pg_cut.specs.Cut.{IsCutOf};
 ghost use Rattle.pg_sync.specs.Held.{IsHeld, IsHolding};
 ghost use Rattle.pg_sync.specs.Going.{IsDone};
+ghost use Rattle.pg_sync.specs.Counting.{counters_of, AreCounted};
 
+use crate::degree::gathers_of;
 use crate::masters::{Masters, signalled_in};
 use crate::round::one_round;
 use crate::worker::{Scattering, Seat};
@@ -17,18 +19,20 @@ use std::alloc::{AllocError, Global};
 use std::sync::ledger::Ledger;
 use std::thread::Threads;
 
-/// How many rounds were made, how many executions they had, and how they ended.
+/// How many rounds were made, what they took, and how they ended.
 #[derive(Clone, Copy, Debug)]
 pub struct Ran {
     pub rounds: u32,
     pub executions: u64,
+    pub gathers: u64,
     pub end: End,
 }
 
 /// Rounds until nothing is signalled, or so many.
 ///
-/// Whatever state the workers and the masters hold before, they hold the one after its rounds. After
-/// `Err`, which is want of memory, they hold none, and the counters are there.
+/// Whatever state the workers and the masters hold before, they hold the one after its rounds, and
+/// each counter rises by its worker's gathers in them. After `Err`, which is want of memory, they
+/// hold none, and the counters are there.
 pub fn run_parts<R: Threads + Sync, P: VertexProgram, G: Gate, L: Ledger + Send>(
     rt: &R,
     alloc: Global,
@@ -51,18 +55,24 @@ pub fn run_parts<R: Threads + Sync, P: VertexProgram, G: Gate, L: Ledger + Send>
     ensures done { let p = P.meaning program.now in IfOk result (λ ran. (s : Configuration) →
         IsHeld p graph.now cut.now s workers.old mirrors.old
         masters.old.values.items masters.old.messages.items →
-        IsDone p graph.now cut.now s limit ran.rounds ran.executions workers.new mirrors.new
-        masters.new.values.items masters.new.messages.items ran.end) }
+        IsDone p graph.now cut.now s limit ran.rounds ran.executions ran.gathers
+        workers.new mirrors.new masters.new.values.items masters.new.messages.items ran.end) }
+    ensures counted { let p = P.meaning program.now in OnOk result ((s : Configuration) →
+        IsHeld p graph.now cut.now s workers.old mirrors.old
+        masters.old.values.items masters.old.messages.items →
+        AreCounted p graph.now cut.now s limit (counters_of seats.old) (counters_of seats.new)) }
     ensures present { All (λ seat. IsSome seat.0) seats.new }
 {
     let _ = graph.vertices();
     let mut executions = 0u64;
+    let mut gathers = 0u64;
     for round in 0..limit {
         let wanted = signalled_in(alloc, graph, masters.messages.as_slice())?;
         if wanted.is_empty() {
             return Ok(Ran {
                 rounds: round,
                 executions,
+                gathers,
                 end: End::Quiescent,
             });
         }
@@ -71,12 +81,14 @@ pub fn run_parts<R: Threads + Sync, P: VertexProgram, G: Gate, L: Ledger + Send>
             rt, alloc, program, graph, cut, seats, workers, mirrors, masters, listed, gate,
         )?;
         executions += listed.len() as u64;
+        gathers += gathers_of(program, graph, listed);
     }
     let wanted = signalled_in(alloc, graph, masters.messages.as_slice())?;
     let end = end_by(wanted.is_empty());
     Ok(Ran {
         rounds: limit,
         executions,
+        gathers,
         end,
     })
 }

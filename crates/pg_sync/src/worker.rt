@@ -57,7 +57,8 @@ impl<A> Scattering<A> {
         mirrors: &MirrorTable,
         carries: &[Option<P::Carry>],
     )
-        requires readable { IsReadable (P.meaning program.now) graph.now self.old.store mirrors.now }
+        requires readable { IsReadable (P.meaning program.now) graph.now self.old.store
+            mirrors.now }
         requires carries { AreCarries (P.meaning program.now) graph.now carries.now }
         ensures { HasScattered (P.meaning program.now) graph.now mirrors.now carries.now
             self.old self.new }

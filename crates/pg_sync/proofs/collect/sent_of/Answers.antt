@@ -1,4 +1,4 @@
-use Rattle.std.proofs.Common.{◌≡◌, ℕ, ◌<◌, length, refl, Ok, sym, ◌∙◌, ap, arith, map}
+use Rattle.std.proofs.Common.{◌<◌, length, refl, Ok, ◌∙◌, ap, arith, map}
 use Rattle.pg_sync.specs.declared.worker.Scattering.{Scattering}
 use Rattle.pg_sync.proofs.Collecting.{kept_still, parts_more, rest_still}
 use Rattle.pg_sync.proofs.collect.sent_of.Goals as goal

@@ -1,4 +1,4 @@
-use Rattle.std.proofs.Common.{◌≡◌, ℕ, ◌<◌, length, refl, Some, sym, ◌∙◌, ap, arith, map}
+use Rattle.std.proofs.Common.{◌<◌, length, refl, Some, sym, ◌∙◌, ap, arith, map}
 use Rattle.pg_sync.specs.Phases.{Seat}
 use Rattle.pg_sync.proofs.Collecting.{kept_still, parts_more, rest_still}
 use Rattle.pg_sync.proofs.collect.sums_of.Goals as goal

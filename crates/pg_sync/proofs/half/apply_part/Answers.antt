@@ -1,11 +1,8 @@
-use Rattle.std.proofs.Common.{◌≡◌, ◌≤◌, ℕ, List, length, map, sym, subst, ◌∙◌, ap, arith}
-use Rattle.std.specs.Prelude.{All}
+use Rattle.std.proofs.Common.{◌∙◌, arith}
 use Rattle.std.proofs.lemmas.Result.{IfOk-weaker}
-use Rattle.pg_law.specs.declared.values.Datum.{Datum}
-use Rattle.pg_law.specs.Configuration.{AreData, AreMessages}
-use Rattle.pg_gather.specs.Merging.{AreParts}
 use Rattle.pg_sync.specs.Held.{no_worker}
 use Rattle.pg_sync.proofs.Holding.{are_readable, lists_gathered, partials_own, merged_is, applied_is, sums_mastered, wanted_distinct, still_present}
+use Rattle.pg_sync.proofs.Raising.{on_ok, counters_rise}
 use Rattle.pg_sync.proofs.half.apply_part.Goals as goal
 
 pub gather_phase-requires-clause-readable : goal.gather_phase-requires-clause-readable
@@ -50,3 +47,8 @@ returns-in_err-sums-clause-present g c = still_present c.gather_phase.new.seats 
 
 pub returns-clause-present : goal.returns-clause-present
 returns-clause-present g c = still_present c.gather_phase.new.seats c.sums_of.new.seats c.sums_of.ensures.counters (λ w d h. (c.gather_phase.ensures w d no_worker (omega (arith, h, c.gather_phase.auto.seats))).present)
+
+pub returns-clause-counted : goal.returns-clause-counted
+returns-clause-counted g c = on_ok c.apply_masters.result (λ s held. counters_rise (g.P.VertexProgram.meaning c.args.program.now) c.args.graph.now c.vertices.ensures.graph c.args._cut.now c.requires.cut s c.args.workers.now c.args.mirrors.now c.args.values.now c.args.messages.now held
+    c.args.wanted.now c.requires.wanted c.args.seats.now c.gather_phase.new.seats c.sums_of.new.seats c.in_ok-parts.parts.items c.requires.seats c.gather_phase.auto.seats c.sums_of.ensures.counters c.in_ok-parts.ensures.sums
+    (λ w d h. c.gather_phase.ensures w d no_worker h))

@@ -3,7 +3,6 @@ use Rattle.std.specs.Prelude.{All, AllPairs}
 use Rattle.std.proofs.lemmas.List.{with_items_is}
 use Rattle.pg_apply_scatter.specs.Delivering.{AreCombined}
 use Rattle.pg_law.specs.declared.values.Datum.{Datum}
-use Rattle.pg_law.specs.Carries.{AreCarries}
 use Rattle.pg_cut.specs.ByWorker.{lists_in}
 use Rattle.pg_apply_scatter.specs.Pushing.{table_at, ArePushed}
 use Rattle.pg_apply_scatter.specs.Sending.{IsSentIn}

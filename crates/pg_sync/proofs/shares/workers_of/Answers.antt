@@ -1,5 +1,3 @@
-use Rattle.std.proofs.Common.{sym, subst, ◌∙◌, ap}
-use Rattle.std.proofs.lemmas.List.{append-nil}
 use Rattle.pg_sync.proofs.Sharing.{have_more}
 use Rattle.pg_sync.proofs.shares.workers_of.Goals as goal
 
