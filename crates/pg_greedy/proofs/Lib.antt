@@ -1,0 +1,12 @@
+pub mod Scanning
+pub mod Unbeaten
+pub mod Choosing
+pub mod Chosen
+pub mod Stepping
+pub mod Tables
+pub mod Turns
+pub mod Placings
+pub mod Drafting
+pub mod Apart
+pub mod Merging
+pub mod FourCases
