@@ -3,10 +3,11 @@ use Rattle.std.proofs.Common.{◌≡◌, ◌≢◌, ℕ, ◌^◌, ◌-◌, true,
 use Rattle.std.specs.Option.{option_map}
 use Rattle.pg_base.specs.Numbers.{number_of}
 use Rattle.pg_readers.specs.declared.line.Format.{Format}
-use Rattle.pg_words.specs.Names.{Word, named, formats, format_word}
-use Rattle.pg_words.specs.Options.{no_choices, stands, with_flag, with_value}
+use Rattle.pg_words.specs.Names.{Word, named, formats, format_word, cuts, cut_word}
+use Rattle.pg_words.specs.Options.{no_choices, stands, number_from, with_flag, with_value}
 use Rattle.pg_words.specs.Jobs.{with_setting}
 use Rattle.pg_words.specs.declared.choices.Choices.{Choices}
+use Rattle.pg_words.specs.declared.names.CutWord.{CutWord}
 use Rattle.pg_words.specs.declared.names.OptionName.{OptionName}
 use Rattle.pg_words.specs.declared.names.OptionName.TheVariants as option
 use Rattle.pg_words.proofs.Naming.{mapped}
@@ -14,23 +15,32 @@ use Rattle.pg_words.proofs.Naming.{mapped}
 -- the options, numbered
 abbrev pub row : OptionName → ℕ
 row option.Format = 0
-row option.Rounds = 1
-row option.Fuel = 2
-row option.Serial = 3
-row option.Source = 4
-row option.Tolerance = 5
+row option.Workers = 1
+row option.Cut = 2
+row option.Seed = 3
+row option.Rounds = 4
+row option.Fuel = 5
+row option.Serial = 6
+row option.Source = 7
+row option.Tolerance = 8
 
 -- an option by its number
 abbrev pub at_row : ℕ → OptionName
 at_row zero = option.Format
-at_row (suc zero) = option.Rounds
-at_row (suc (suc zero)) = option.Fuel
-at_row (suc (suc (suc zero))) = option.Serial
-at_row (suc (suc (suc (suc zero)))) = option.Source
+at_row (suc zero) = option.Workers
+at_row (suc (suc zero)) = option.Cut
+at_row (suc (suc (suc zero))) = option.Seed
+at_row (suc (suc (suc (suc zero)))) = option.Rounds
+at_row (suc (suc (suc (suc (suc zero))))) = option.Fuel
+at_row (suc (suc (suc (suc (suc (suc zero)))))) = option.Serial
+at_row (suc (suc (suc (suc (suc (suc (suc zero))))))) = option.Source
 at_row _ = option.Tolerance
 
 pub at_row-row : (option : OptionName) → at_row (row option) ≡ option
 at_row-row option.Format = refl
+at_row-row option.Workers = refl
+at_row-row option.Cut = refl
+at_row-row option.Seed = refl
 at_row-row option.Rounds = refl
 at_row-row option.Fuel = refl
 at_row-row option.Serial = refl
@@ -40,6 +50,9 @@ at_row-row option.Tolerance = refl
 -- no option stands at first
 pub stands-none : (option : OptionName) → stands no_choices option ≡ false
 stands-none option.Format = refl
+stands-none option.Workers = refl
+stands-none option.Cut = refl
+stands-none option.Seed = refl
 stands-none option.Rounds = refl
 stands-none option.Fuel = refl
 stands-none option.Serial = refl
@@ -49,6 +62,9 @@ stands-none option.Tolerance = refl
 -- what an option sets: its value, or itself
 pub data Value : Type 0 where
   of_format : Format → Value
+  of_workers : ℕ → Value
+  of_cut : CutWord → Value
+  of_seed : ℕ → Value
   of_rounds : ℕ → Value
   of_fuel : ℕ → Value
   of_serial : Value
@@ -58,6 +74,9 @@ pub data Value : Type 0 where
 -- the option of a value
 abbrev pub option_of : Value → OptionName
 option_of (of_format x) = option.Format
+option_of (of_workers x) = option.Workers
+option_of (of_cut x) = option.Cut
+option_of (of_seed x) = option.Seed
 option_of (of_rounds x) = option.Rounds
 option_of (of_fuel x) = option.Fuel
 option_of of_serial = option.Serial
@@ -67,6 +86,9 @@ option_of (of_tolerance x) = option.Tolerance
 -- the choices with a value more
 abbrev pub put : Choices → Value → Choices
 put c (of_format x) = record c { format = Some x }
+put c (of_workers x) = record c { workers = Some x }
+put c (of_cut x) = record c { cut = Some x }
+put c (of_seed x) = record c { seed = Some x }
 put c (of_rounds x) = record c { rounds = Some x }
 put c (of_fuel x) = record c { fuel = Some x }
 put c of_serial = record c { serial = true }
@@ -77,6 +99,9 @@ put c (of_tolerance x) = record c { tolerance = Some x }
 stands-put : (c : Choices) (value : Value) (other : OptionName)
     → stands (put c value) other ≡ (eqb (row (option_of value)) (row other) || stands c other)
 stands-put c (of_format x) option.Format = refl
+stands-put c (of_workers x) option.Format = refl
+stands-put c (of_cut x) option.Format = refl
+stands-put c (of_seed x) option.Format = refl
 stands-put c (of_rounds x) option.Format = refl
 stands-put c (of_fuel x) option.Format = refl
 stands-put c of_serial option.Format = refl
@@ -88,6 +113,9 @@ stands-put c value other = refl
 pub put-comm : (c : Choices) (value other : Value) → option_of value ≢ option_of other
     → put (put c value) other ≡ put (put c other) value
 put-comm c (of_format x) (of_format y) apart = absurd (apart refl)
+put-comm c (of_workers x) (of_workers y) apart = absurd (apart refl)
+put-comm c (of_cut x) (of_cut y) apart = absurd (apart refl)
+put-comm c (of_seed x) (of_seed y) apart = absurd (apart refl)
 put-comm c (of_rounds x) (of_rounds y) apart = absurd (apart refl)
 put-comm c (of_fuel x) (of_fuel y) apart = absurd (apart refl)
 put-comm c of_serial of_serial apart = refl
@@ -124,6 +152,12 @@ with_value-IsPut : (c d : Choices) (option : OptionName) (word : Word)
     → with_value c option word ≡ Some d → IsPut c option (Some word) d
 with_value-IsPut c d option.Format word e =
     read-IsPut of_format (named format_word formats word) c d option.Format word (λ _. refl) (λ _. refl) e
+with_value-IsPut c d option.Workers word e =
+    read-IsPut of_workers (number_from 1 64 word) c d option.Workers word (λ _. refl) (λ _. refl) e
+with_value-IsPut c d option.Cut word e =
+    read-IsPut of_cut (named cut_word cuts word) c d option.Cut word (λ _. refl) (λ _. refl) e
+with_value-IsPut c d option.Seed word e =
+    read-IsPut of_seed (number_of (2 ^ 64 - 1) word) c d option.Seed word (λ _. refl) (λ _. refl) e
 with_value-IsPut c d option.Rounds word e =
     read-IsPut of_rounds (number_of (2 ^ 32 - 1) word) c d option.Rounds word (λ _. refl) (λ _. refl) e
 with_value-IsPut c d option.Fuel word e =

@@ -75,11 +75,15 @@ options_end : (head : Head) (c : Choices) → CanEnd (reading.Options head c)
 options_end (heads.Run Sync program) c = program_ends (heads.Run Sync program) Sync program job.Run c refl (λ _. refl)
 options_end (heads.Run Async program) c = serial_ends program c c.serial
 options_end (heads.Check engine program) c = program_ends (heads.Check engine program) engine program job.Check c refl (λ _. refl)
+options_end heads.Cut c = stands_whole heads.Cut c _ refl
 
 -- each option that waits for a value has one
 value_ends : (head : Head) (c : Choices) (option : OptionName) → with_flag c option ≡ None
     → CanEnd (reading.Value head c option)
 value_ends head c option.Format waits = then_ends _ _ (codes "snap") refl (options_end head _)
+value_ends head c option.Workers waits = then_ends _ _ (codes "1") refl (options_end head _)
+value_ends head c option.Cut waits = then_ends _ _ (codes "random") refl (options_end head _)
+value_ends head c option.Seed waits = then_ends _ _ (codes "0") refl (options_end head _)
 value_ends head c option.Rounds waits = then_ends _ _ (codes "0") refl (options_end head _)
 value_ends head c option.Fuel waits = then_ends _ _ (codes "0") refl (options_end head _)
 value_ends head c option.Serial waits = cc

@@ -1,12 +1,12 @@
--- Each word that may follow is one more behind what stands, and there are sixteen at most.
-use Rattle.std.proofs.Common.{◌≡◌, ℕ, ◌+◌, ◌*◌, ◌<◌, ◌≤◌, List, [], ◌∷◌, ◌++◌, length, Bool, true, false, ◌||◌, cond, Option, Some, None, Contains, count_by, refl, sym, ap, ◌∙◌, eqb, arith, zero, suc, lit<, lit≤, subst}
+-- Each word that may follow is one more behind what stands, and there are twenty-two at most.
+use Rattle.std.proofs.Common.{◌≡◌, ℕ, ◌+◌, ◌*◌, ◌<◌, ◌≤◌, List, [], ◌∷◌, length, Bool, true, false, ◌||◌, cond, Option, Some, None, Contains, count_by, refl, sym, ap, ◌∙◌, eqb, arith, zero, suc, lit<, lit≤, subst}
 use Rattle.std.proofs.lemmas.Bool.{eq-eqb}
 use Rattle.std.specs.List.{slice_index_or}
 use Rattle.std.proofs.lemmas.List.{length-append}
 use Rattle.std.proofs.lemmas.List.Sums.{count_by-le-length, sum_by-cons}
 use Rattle.pg_words.specs.Names.{Word, options}
 use Rattle.pg_words.specs.Options.{stands, with_flag}
-use Rattle.pg_words.specs.Jobs.{head_words, with_setting}
+use Rattle.pg_words.specs.Jobs.{head_parts, with_setting}
 use Rattle.pg_words.specs.Reading.{next, standing, behind_option}
 use Rattle.pg_words.specs.declared.choices.Choices.{Choices}
 use Rattle.pg_words.specs.declared.head.Head.{Head}
@@ -19,7 +19,7 @@ use Rattle.pg_words.specs.declared.names.OptionName.{OptionName}
 use Rattle.pg_words.specs.declared.names.OptionName.TheVariants as option
 use Rattle.pg_words.specs.declared.reading.Reading.{Reading}
 use Rattle.pg_words.specs.declared.reading.Reading.TheVariants as reading
-use Rattle.pg_words.proofs.Leading.{lead_words, led_words, lead_step}
+use Rattle.pg_words.proofs.Leading.{lead_parts, led_parts, IsNext, lead_step}
 use Rattle.pg_words.proofs.Naming.{option_step, value_step}
 use Rattle.pg_words.proofs.Choosing.{row, stands-with_setting}
 use Rattle.pg_words.proofs.Settings.{free_parts}
@@ -27,11 +27,14 @@ use Rattle.pg_words.proofs.Settings.{free_parts}
 -- each option is among the options
 options-row : (option : OptionName) → Contains options option
 options-row option.Format = (0, lit< tt, refl)
-options-row option.Rounds = (1, lit< tt, refl)
-options-row option.Fuel = (2, lit< tt, refl)
-options-row option.Serial = (3, lit< tt, refl)
-options-row option.Source = (4, lit< tt, refl)
-options-row option.Tolerance = (5, lit< tt, refl)
+options-row option.Workers = (1, lit< tt, refl)
+options-row option.Cut = (2, lit< tt, refl)
+options-row option.Seed = (3, lit< tt, refl)
+options-row option.Rounds = (4, lit< tt, refl)
+options-row option.Fuel = (5, lit< tt, refl)
+options-row option.Serial = (6, lit< tt, refl)
+options-row option.Source = (7, lit< tt, refl)
+options-row option.Tolerance = (8, lit< tt, refl)
 
 module _ {X : Type 0} (p q : X → Bool) (keeps : (x : X) → p x ≡ true → q x ≡ true) where
   one-keeps : (b c : Bool) → (b ≡ true → c ≡ true) → cond b 1 0 ≤ cond c 1 0
@@ -88,14 +91,15 @@ count-with_setting c d option word new e =
 
 -- at least how many words are behind what stands
 abbrev pub words_behind : Reading → ℕ
-words_behind (reading.Lead lead) = length (lead_words lead)
-words_behind (reading.Options head c) = length (head_words head) + 2 * count c
-words_behind (reading.Value head c option) = length (head_words head) + 1 + 2 * count c
+words_behind (reading.Lead lead) = length (lead_parts lead)
+words_behind (reading.Options head c) = length (head_parts head) + 2 * count c
+words_behind (reading.Value head c option) = length (head_parts head) + 1 + 2 * count c
 
 -- three words at most stand before the options
-head_words-le : (head : Head) → length (head_words head) ≤ 3
-head_words-le (heads.Run engine program) = lit≤ tt
-head_words-le (heads.Check engine program) = lit≤ tt
+head_parts-le : (head : Head) → length (head_parts head) ≤ 3
+head_parts-le (heads.Run engine program) = lit≤ tt
+head_parts-le (heads.Check engine program) = lit≤ tt
+head_parts-le heads.Cut = lit≤ tt
 
 pub words_behind-le : (standing : Reading) → words_behind standing ≤ 4 + 2 * length options
 words_behind-le (reading.Lead leads.Start) = lit≤ tt
@@ -104,11 +108,11 @@ words_behind-le (reading.Lead (leads.Run engine)) = lit≤ tt
 words_behind-le (reading.Lead (leads.CheckBy engine)) = lit≤ tt
 words_behind-le (reading.Options head c) =
     let most = count_by-le-length (stands c) options in
-    let before = head_words-le head in
+    let before = head_parts-le head in
     omega arith
 words_behind-le (reading.Value head c option) =
     let most = count_by-le-length (stands c) options in
-    let before = head_words-le head in
+    let before = head_parts-le head in
     omega arith
 
 -- an option that waits for its value doesn't stand yet, and never stands alone
@@ -134,12 +138,11 @@ behind-IsStep head c option new =
     by_flag (with_flag c option) refl
 
 -- so does a word before the options
-led-IsStep : (lead : Lead) (led : Led) (word : Word) → led_words led ≡ lead_words lead ++ word ∷ []
-    → IsStep (reading.Lead lead) (standing led)
-led-IsStep lead led word spelled =
-    let longer : length (led_words led) ≡ length (lead_words lead) + 1 =
-    ap length spelled ∙ length-append (lead_words lead) (word ∷ []) in
-    elim led as (λ l. length (led_words l) ≡ length (lead_words lead) + 1 → IsStep (reading.Lead lead) (standing l)) [
+led-IsStep : (lead : Lead) (led : Led) (word : Word) → IsNext lead word led → IsStep (reading.Lead lead) (standing led)
+led-IsStep lead led word next =
+    let longer : length (led_parts led) ≡ length (lead_parts lead) + 1 =
+    ap length next.parts ∙ length-append (lead_parts lead) (next.part ∷ []) in
+    elim led as (λ l. length (led_parts l) ≡ length (lead_parts lead) + 1 → IsStep (reading.Lead lead) (standing l)) [
       | to.Lead more ↦ λ e. record { fresh = tt; further = omega arith }
       | to.Head head ↦ λ e. record { fresh = tt; further = omega arith }
     ] longer
@@ -148,7 +151,7 @@ led-IsStep lead led word spelled =
 pub next-IsStep : (standing more : Reading) (word : Word) → IsFresh standing → next standing word ≡ Some more → IsStep standing more
 next-IsStep (reading.Lead lead) more word fresh e =
     let step = lead_step lead word more e in
-    subst (IsStep (reading.Lead lead)) (sym step.is) (led-IsStep lead step.led word step.spelled)
+    subst (IsStep (reading.Lead lead)) (sym step.is) (led-IsStep lead step.led word step.next)
 next-IsStep (reading.Options head c) more word fresh e =
     let step = option_step head c word more e in
     subst (IsStep (reading.Options head c)) (sym step.is) (behind-IsStep head c step.option (free_parts head c step.option step.free).1)

@@ -2,6 +2,7 @@ mod Choosing
 mod Completing
 mod Counting
 mod Leading
+mod Limiting
 mod Naming
 mod Ordering
 mod Parsing

@@ -45,6 +45,7 @@ pub first_word-named : (word : FirstWord) → named first_word first_words (firs
 first_word-named (first.Engine Sync) = refl
 first_word-named (first.Engine Async) = refl
 first_word-named first.Check = refl
+first_word-named first.Cut = refl
 
 -- each program is found by its word
 pub program_word-named : (word : ProgramWord) → named program_word programs (program_word word) ≡ Some word
@@ -57,6 +58,9 @@ program_word-named program.Tree = refl
 -- each option is found by its word
 pub option_word-named : (option : OptionName) → named option_word options (option_word option) ≡ Some option
 option_word-named option.Format = refl
+option_word-named option.Workers = refl
+option_word-named option.Cut = refl
+option_word-named option.Seed = refl
 option_word-named option.Rounds = refl
 option_word-named option.Fuel = refl
 option_word-named option.Serial = refl

@@ -1,10 +1,11 @@
 -- The reading answers what the grammar says.
-use Rattle.std.proofs.Common.{◌≡◌, List, [], ◌∷◌, ◌++◌, true, Option, Some, None, option_and_then, append_assoc, refl, subst, ap, ◌∙◌}
+use Rattle.std.proofs.Common.{◌≡◌, List, [], ◌∷◌, ◌++◌, true, Option, Some, None, option_and_then, append_assoc, refl, sym, subst, ap, ◌∙◌}
 use Rattle.std.proofs.lemmas.Option.{option_and_then_some}
 use Rattle.std.specs.List.{slice_index_or}
 use Rattle.pg_words.specs.Names.{Word}
 use Rattle.pg_words.specs.Options.{no_choices, with_flag, with_value, job_from}
-use Rattle.pg_words.specs.Jobs.{Setting, spelling, setting_words, with_setting, head_words, chosen, IsJobOf, IsJob}
+use Rattle.pg_words.specs.Jobs.{Setting, spelling, setting_words, with_setting, head_parts, chosen, IsJobOf, IsJob}
+use Rattle.pg_words.specs.Parts.{SpellAll}
 use Rattle.pg_words.specs.Reading.{next, standing, is_free, behind_option, after, job_at, job_of}
 use Rattle.pg_words.specs.declared.choices.Choices.{Choices}
 use Rattle.pg_words.specs.declared.head.Head.{Head}
@@ -17,7 +18,7 @@ use Rattle.pg_words.specs.declared.names.OptionName.TheVariants as option
 use Rattle.pg_words.specs.declared.job.Job.{Job}
 use Rattle.pg_words.specs.declared.reading.Reading.{Reading}
 use Rattle.pg_words.specs.declared.reading.Reading.TheVariants as reading
-use Rattle.pg_words.proofs.Leading.{lead_words, led_words, lead_step, after-head_words}
+use Rattle.pg_words.proofs.Leading.{lead_parts, led_parts, lead_step, SpellAll-push, after-head_parts}
 use Rattle.pg_words.proofs.Naming.{option_word-named, option_step, value_step}
 use Rattle.pg_words.proofs.Choosing.{stands-none}
 use Rattle.pg_words.proofs.Settings.{Placed, Placed-MayStand, MayStand-Placed}
@@ -127,37 +128,40 @@ IsJobOf-Placed head settings job is =
     })
 
 -- words behind those before the options, or the first of them
-led_job : (led : Led) (words : List Word) (last : Reading) (job : Job)
+led_job : (led : Led) (front words : List Word) (last : Reading) (job : Job) → SpellAll front (led_parts led)
     → after (standing led) words ≡ Some last → job_at last ≡ Some job
-    → ((lead : Lead) → option_and_then job_at (after (reading.Lead lead) words) ≡ Some job → IsJob (lead_words lead ++ words) job)
-    → IsJob (led_words led ++ words) job
-led_job (to.Lead lead) words last job e named by_lead = by_lead lead (ap (option_and_then job_at) e ∙ named)
-led_job (to.Head head) words last job e named by_lead =
+    → ((lead : Lead) → SpellAll front (lead_parts lead) → option_and_then job_at (after (reading.Lead lead) words) ≡ Some job → IsJob (front ++ words) job)
+    → IsJob (front ++ words) job
+led_job (to.Lead lead) front words last job fronted e named by_lead = by_lead lead fronted (ap (option_and_then job_at) e ∙ named)
+led_job (to.Head head) front words last job fronted e named by_lead =
     let rest = rest_is head no_choices words last job e named in
     record {
       head = head;
+      front = front;
       settings = rest.settings;
-      spelled = ap (λ (back : List Word). head_words head ++ back) rest.spelled;
+      fronted = fronted;
+      spelled = ap (λ (back : List Word). front ++ back) rest.spelled;
       is = Placed-IsJobOf head rest.settings rest.made job rest.placed rest.meant;
     }
 
 -- words that are read to a job behind a lead are that job's, with the words of the lead before them
-lead_job : (lead : Lead) (words : List Word) (job : Job)
-    → option_and_then job_at (after (reading.Lead lead) words) ≡ Some job → IsJob (lead_words lead ++ words) job
-lead_job lead [] job e = cc
-lead_job lead (word ∷ words) job e =
+lead_job : (lead : Lead) (front words : List Word) (job : Job) → SpellAll front (lead_parts lead)
+    → option_and_then job_at (after (reading.Lead lead) words) ≡ Some job → IsJob (front ++ words) job
+lead_job lead front [] job fronted e = cc
+lead_job lead front (word ∷ words) job fronted e =
     option_and_then_some job_at (after (reading.Lead lead) (word ∷ words)) job e (λ last stands_last named.
     (let first = after-cons (reading.Lead lead) word words last stands_last in
     let step = lead_step lead word first.more first.follows in
     let behind : after (standing step.led) words ≡ Some last = rw step.is at first.behind in
-    let is : IsJob (led_words step.led ++ words) job =
-    led_job step.led words last job behind named (λ more. lead_job more words job) in
-    subst (λ (all : List Word). IsJob all job)
-    (ap (λ (front : List Word). front ++ words) step.spelled ∙ append_assoc (lead_words lead) (word ∷ []) words) is))
+    let longer : SpellAll (front ++ word ∷ []) (led_parts step.led) =
+    subst (SpellAll (front ++ word ∷ [])) (sym step.next.parts) (SpellAll-push front (lead_parts lead) word step.next.part fronted step.next.spells) in
+    let is : IsJob ((front ++ word ∷ []) ++ words) job =
+    led_job step.led (front ++ word ∷ []) words last job longer behind named (λ more. lead_job more (front ++ word ∷ []) words job) in
+    subst (λ (all : List Word). IsJob all job) (append_assoc front (word ∷ []) words) is))
 
 -- words that are read to a job are that job's
 pub IsJob-from_reading : (words : List Word) (job : Job) → job_of words ≡ Some job → IsJob words job
-IsJob-from_reading words job e = lead_job leads.Start words job e
+IsJob-from_reading words job e = lead_job leads.Start [] words job tt e
 
 -- a value is read behind the option that waits for it
 waits_for : (c : Choices) (option : OptionName) (word : Word) (d : Choices) → with_value c option word ≡ Some d
@@ -186,14 +190,14 @@ after-setting_words head c d (setting ∷ settings) (more, first, behind) =
     (after-setting_words head more d settings behind)
 
 -- the words of a head and settings are read
-job_of-head_words : (head : Head) (settings : List Setting) (job : Job)
-    → IsJobOf head settings job → job_of (head_words head ++ setting_words settings) ≡ Some job
-job_of-head_words head settings job is =
+job_of-head_parts : (head : Head) (front : List Word) (settings : List Setting) (job : Job) → SpellAll front (head_parts head)
+    → IsJobOf head settings job → job_of (front ++ setting_words settings) ≡ Some job
+job_of-head_parts head front settings job fronted is =
     let placed = IsJobOf-Placed head settings job is in
-    let read = after-head_words head (setting_words settings)
+    let read = after-head_parts head front (setting_words settings) fronted
     ∙ after-setting_words head no_choices placed.made settings placed.placed in
     ap (option_and_then job_at) read ∙ placed.meant
 
 -- words of a job are read to that job
 pub job_of-IsJob : (words : List Word) (job : Job) → IsJob words job → job_of words ≡ Some job
-job_of-IsJob words job is = rw is.spelled (job_of-head_words is.head is.settings job is.is)
+job_of-IsJob words job is = rw is.spelled (job_of-head_parts is.head is.front is.settings job is.fronted is.is)

@@ -1,6 +1,7 @@
 -- Which words name which job, and where words that name none go wrong.
 use Rattle.std.specs.Prelude.{◌≡◌, ◌≢◌, ℕ, ◌+◌, ◌<◌, ◌≤◌, List, [], ◌∷◌, ◌++◌, length, take, Option, Some, IsTrue, All, AllPairs, flat_map, option_and_then, None}
 use Rattle.pg_words.specs.Names.{Word, engine_word, first_word, program_word, option_word}
+use Rattle.pg_words.specs.Parts.{Part, name, SpellAll}
 use Rattle.pg_words.specs.Options.{takes, no_choices, with_flag, with_value, job_from}
 use Rattle.pg_words.specs.declared.choices.Choices.{Choices}
 use Rattle.pg_words.specs.declared.head.Head.{Head}
@@ -9,12 +10,13 @@ use Rattle.pg_words.specs.declared.names.FirstWord.TheVariants as first
 use Rattle.pg_words.specs.declared.names.OptionName.{OptionName}
 use Rattle.pg_words.specs.declared.job.Job.{Job}
 
--- the words before the options, a row for each kind of job
-abbrev pub head_words : Head → List Word
-head_words (heads.Run engine program) =
-    first_word (first.Engine engine) ∷ program_word program ∷ []
-head_words (heads.Check engine program) =
-    first_word first.Check ∷ engine_word engine ∷ program_word program ∷ []
+-- what the words before the options have to be, a row for each kind of job
+abbrev pub head_parts : Head → List Part
+head_parts (heads.Run engine program) =
+    name (first_word (first.Engine engine)) ∷ name (program_word program) ∷ []
+head_parts (heads.Check engine program) =
+    name (first_word first.Check) ∷ name (engine_word engine) ∷ name (program_word program) ∷ []
+head_parts heads.Cut = name (first_word first.Cut) ∷ []
 
 -- an option that stands, alone or with a word behind it
 pub record Setting : Type 0 where
@@ -51,8 +53,10 @@ pub record IsJobOf (head : Head) (settings : List Setting) (job : Job) : Type 0 
 -- the words name the job: they are the words of a head, and of settings in any order
 pub record IsJob (words : List Word) (job : Job) : Type 0 where
   pub head : Head
+  pub front : List Word
   pub settings : List Setting
-  pub spelled : words ≡ head_words head ++ setting_words settings
+  pub fronted : SpellAll front (head_parts head)
+  pub spelled : words ≡ front ++ setting_words settings
   pub is : IsJobOf head settings job
 
 -- the words are the first of a job's words

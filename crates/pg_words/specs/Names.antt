@@ -1,8 +1,10 @@
--- The words that are names, a row each: engines, programs, formats and options.
+-- The words that are names, a row each: engines, programs, formats, cuts and options.
 use Rattle.std.specs.Prelude.{ℕ, List, [], ◌∷◌, Bool, true, false, Option, Some, None, if◌then◌else◌, codes}
 use Rattle.std.specs.Str.{bytes_eq}
 use Rattle.pg_readers.specs.declared.line.Format.{Format}
 use Rattle.pg_readers.specs.declared.line.Format.TheVariants as format
+use Rattle.pg_words.specs.declared.names.CutWord.{CutWord}
+use Rattle.pg_words.specs.declared.names.CutWord.TheVariants as cut
 use Rattle.pg_words.specs.declared.names.EngineName.{EngineName}
 use Rattle.pg_words.specs.declared.names.EngineName.TheVariants.{Sync, Async}
 use Rattle.pg_words.specs.declared.names.FirstWord.{FirstWord}
@@ -24,13 +26,15 @@ abbrev pub engine_word : EngineName → Word
 engine_word Sync = codes "sync"
 engine_word Async = codes "async"
 
--- the first words of jobs: an engine's, which runs, and that before the words of a run whose report is checked
+-- the first words of jobs: an engine's, which runs, that before the words of a run whose report is checked,
+-- and that of a cut
 abbrev pub first_words : List FirstWord
-first_words = first.Engine Sync ∷ first.Engine Async ∷ first.Check ∷ []
+first_words = first.Engine Sync ∷ first.Engine Async ∷ first.Check ∷ first.Cut ∷ []
 
 abbrev pub first_word : FirstWord → Word
 first_word (first.Engine engine) = engine_word engine
 first_word first.Check = codes "check"
+first_word first.Cut = codes "cut"
 
 -- the programs
 abbrev pub programs : List ProgramWord
@@ -52,10 +56,22 @@ format_word format.Snap = codes "snap"
 format_word format.Tsv = codes "tsv"
 format_word format.Adj = codes "adj"
 
+-- the cuts
+abbrev pub cuts : List CutWord
+cuts = cut.Random ∷ cut.Oblivious ∷ cut.Coordinated ∷ []
+
+abbrev pub cut_word : CutWord → Word
+cut_word cut.Random = codes "random"
+cut_word cut.Oblivious = codes "oblivious"
+cut_word cut.Coordinated = codes "coordinated"
+
 -- the options
 abbrev pub options : List OptionName
 options =
     option.Format
+    ∷ option.Workers
+    ∷ option.Cut
+    ∷ option.Seed
     ∷ option.Rounds
     ∷ option.Fuel
     ∷ option.Serial
@@ -65,6 +81,9 @@ options =
 
 abbrev pub option_word : OptionName → Word
 option_word option.Format = codes "--format"
+option_word option.Workers = codes "--workers"
+option_word option.Cut = codes "--cut"
+option_word option.Seed = codes "--seed"
 option_word option.Rounds = codes "--rounds"
 option_word option.Fuel = codes "--fuel"
 option_word option.Serial = codes "--serial"

@@ -22,6 +22,7 @@ use Rattle.pg_words.specs.declared.reading.Reading.TheVariants as reading
 abbrev pub led_first : FirstWord → Led
 led_first (first.Engine engine) = to.Lead (leads.Run engine)
 led_first first.Check = to.Lead leads.Check
+led_first first.Cut = to.Head heads.Cut
 
 -- what a word more leads to before the options, a row for each lead
 abbrev pub led : Lead → Word → Option Led

@@ -1,10 +1,12 @@
 //! What the options chose so far.
 ghost use Rattle.std.specs.Prelude.{◌≡◌, ◌^◌, ◌-◌};
 ghost use Rattle.pg_base.specs.Numbers.{number_of};
+ghost use Rattle.pg_words.specs.Options.{number_from};
 
 use crate::head::Head;
-use crate::job::{Engine, Job, ProgramName, RunJob};
-use crate::names::{EngineName, OptionName, ProgramWord, format_named};
+use crate::job::{CutJob, CutKind, Engine, Job, ProgramName, RunJob};
+use crate::names::{CutWord, EngineName, OptionName, ProgramWord, format_named};
+use crate::numbers::number_from;
 use pg_base::read_number;
 use pg_readers::Format;
 
@@ -12,6 +14,9 @@ use pg_readers::Format;
 #[derive(Clone, Copy)]
 pub struct Choices {
     pub format: Option<Format>,
+    pub workers: Option<u8>,
+    pub cut: Option<CutWord>,
+    pub seed: Option<u64>,
     pub rounds: Option<u32>,
     pub fuel: Option<u32>,
     pub serial: bool,
@@ -20,7 +25,7 @@ pub struct Choices {
 }
 
 impl Choices {
-    ghost use Rattle.pg_words.specs.Options.{no_choices, stands, with_flag, with_value, engine_of, can_run, program_of, run_job, job_from};
+    ghost use Rattle.pg_words.specs.Options.{no_choices, stands, with_flag, with_value, engine_of, cut_of, can_run, program_of, run_job, cut_job, job_from};
 
     /// No option stands.
     pub fn new() -> Choices
@@ -28,6 +33,9 @@ impl Choices {
     {
         Choices {
             format: None,
+            workers: None,
+            cut: None,
+            seed: None,
             rounds: None,
             fuel: None,
             serial: false,
@@ -42,6 +50,9 @@ impl Choices {
     {
         match option {
             OptionName::Format => self.format.is_some(),
+            OptionName::Workers => self.workers.is_some(),
+            OptionName::Cut => self.cut.is_some(),
+            OptionName::Seed => self.seed.is_some(),
             OptionName::Rounds => self.rounds.is_some(),
             OptionName::Fuel => self.fuel.is_some(),
             OptionName::Serial => self.serial,
@@ -67,29 +78,19 @@ impl Choices {
     pub fn with_value(self, option: OptionName, word: &str) -> Option<Choices>
         ensures { result ≡ with_value self option word.now }
     {
+        let mut more = self;
         match option {
-            OptionName::Format => Some(Choices {
-                format: Some(format_named(word)?),
-                ..self
-            }),
-            OptionName::Rounds => Some(Choices {
-                rounds: Some(read_u32(word)?),
-                ..self
-            }),
-            OptionName::Fuel => Some(Choices {
-                fuel: Some(read_u32(word)?),
-                ..self
-            }),
-            OptionName::Serial => None,
-            OptionName::Source => Some(Choices {
-                source: Some(read_u32(word)?),
-                ..self
-            }),
-            OptionName::Tolerance => Some(Choices {
-                tolerance: Some(read_number(word.as_bytes(), u64::MAX)?),
-                ..self
-            }),
+            OptionName::Format => more.format = Some(format_named(word)?),
+            OptionName::Workers => more.workers = Some(read_workers(word)?),
+            OptionName::Cut => more.cut = Some(CutWord::named(word)?),
+            OptionName::Seed => more.seed = Some(read_number(word.as_bytes(), u64::MAX)?),
+            OptionName::Rounds => more.rounds = Some(read_u32(word)?),
+            OptionName::Fuel => more.fuel = Some(read_u32(word)?),
+            OptionName::Serial => return None,
+            OptionName::Source => more.source = Some(read_u32(word)?),
+            OptionName::Tolerance => more.tolerance = Some(read_number(word.as_bytes(), u64::MAX)?),
         }
+        Some(more)
     }
 
     /// The engine with its limit.
@@ -103,6 +104,19 @@ impl Choices {
             EngineName::Async => Engine::Serial {
                 fuel: self.fuel.unwrap_or(1_000_000_000),
             },
+        }
+    }
+
+    /// The cut with its seed, where it has one.
+    fn cut(&self) -> CutKind
+        ensures { result ≡ cut_of self.now }
+    {
+        match self.cut.unwrap_or(CutWord::Random) {
+            CutWord::Random => CutKind::Random {
+                seed: self.seed.unwrap_or(0),
+            },
+            CutWord::Oblivious => CutKind::Oblivious,
+            CutWord::Coordinated => CutKind::Coordinated,
         }
     }
 
@@ -143,7 +157,20 @@ impl Choices {
             engine: self.engine(engine),
             program: self.program(program)?,
             format: self.format.unwrap_or(Format::Snap),
+            workers: self.workers.unwrap_or(1),
+            kind: self.cut(),
         })
+    }
+
+    /// The cut by itself.
+    fn cut_job(&self) -> CutJob
+        ensures { result ≡ cut_job self.now }
+    {
+        CutJob {
+            format: self.format.unwrap_or(Format::Snap),
+            workers: self.workers.unwrap_or(1),
+            kind: self.cut(),
+        }
     }
 
     /// The job that these words and choices name, unless a required option is missing.
@@ -156,8 +183,16 @@ impl Choices {
             }
             Head::Run(_, _) => None,
             Head::Check(engine, program) => Some(Job::Check(self.run_job(engine, program)?)),
+            Head::Cut => Some(Job::Cut(self.cut_job())),
         }
     }
+}
+
+/// A number of workers, 1 to 64.
+fn read_workers(word: &str) -> Option<u8>
+    ensures { result ≡ number_from 1 64 word.now }
+{
+    Some(number_from(word, 1, 64)? as u8)
 }
 
 /// A number below 2^32.

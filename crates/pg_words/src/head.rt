@@ -1,6 +1,6 @@
 //! The words before the options.
 ghost use Rattle.std.specs.Prelude.{◌≡◌};
-ghost use Rattle.pg_words.specs.Options.{takes, run_takes};
+ghost use Rattle.pg_words.specs.Options.{takes, run_takes, cut_takes};
 
 use crate::names::{EngineName, OptionName, ProgramWord};
 
@@ -11,6 +11,8 @@ pub enum Head {
     Run(EngineName, ProgramWord),
     /// `check`, and the words of the run whose report is checked.
     Check(EngineName, ProgramWord),
+    /// `cut`.
+    Cut,
 }
 
 impl Head {
@@ -21,6 +23,7 @@ impl Head {
         match self {
             Head::Run(engine, program) => run_takes(engine, program, option),
             Head::Check(engine, program) => run_takes(engine, program, option),
+            Head::Cut => cut_takes(option),
         }
     }
 }
@@ -31,10 +34,23 @@ fn run_takes(engine: EngineName, program: ProgramWord, option: OptionName) -> bo
 {
     match option {
         OptionName::Format => true,
+        OptionName::Workers => true,
+        OptionName::Cut => true,
+        OptionName::Seed => true,
         OptionName::Rounds => engine.has_rounds(),
         OptionName::Fuel => engine.has_fuel(),
         OptionName::Serial => engine.has_fuel(),
         OptionName::Source => program.has_source(),
         OptionName::Tolerance => program.has_tolerance(),
     }
+}
+
+/// Whether an option may stand behind `cut`.
+fn cut_takes(option: OptionName) -> bool
+    ensures { result ≡ cut_takes option }
+{
+    matches!(
+        option,
+        OptionName::Format | OptionName::Workers | OptionName::Cut | OptionName::Seed
+    )
 }

@@ -35,14 +35,36 @@ impl ProgramName {
     }
 }
 
+/// How the edges are placed on the workers.
+#[derive(Clone, Copy, Debug, PartialEq, Eq)]
+pub enum CutKind {
+    /// By a mix of the ends of an edge with this seed.
+    Random { seed: u64 },
+    /// Greedily, where each loader knows what it placed itself.
+    Oblivious,
+    /// Greedily, where each loader also knows what all placed in earlier batches.
+    Coordinated,
+}
+
 /// A run of a program on a graph text.
 ///
 /// Where its report is checked, the engine says whose report it is, and with which limit.
+/// `workers` is 1 to 64.
 #[derive(Clone, Copy, Debug, PartialEq, Eq)]
 pub struct RunJob {
     pub engine: Engine,
     pub program: ProgramName,
     pub format: Format,
+    pub workers: u8,
+    pub kind: CutKind,
+}
+
+/// A cut of a graph text whose counts are told. `workers` is 1 to 64.
+#[derive(Clone, Copy, Debug, PartialEq, Eq)]
+pub struct CutJob {
+    pub format: Format,
+    pub workers: u8,
+    pub kind: CutKind,
 }
 
 /// What is to be done.
@@ -52,4 +74,6 @@ pub enum Job {
     Run(RunJob),
     /// Checks the report that stands behind the graph text.
     Check(RunJob),
+    /// Cuts the graph and tells the cut's counts.
+    Cut(CutJob),
 }

@@ -36,6 +36,7 @@ impl FirstWord {
         match self {
             FirstWord::Engine(engine) => Led::Lead(Lead::Run(engine)),
             FirstWord::Check => Led::Lead(Lead::Check),
+            FirstWord::Cut => Led::Head(Head::Cut),
         }
     }
 }

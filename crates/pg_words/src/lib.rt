@@ -7,9 +7,10 @@ mod job;
 pub mod laws;
 mod lead;
 mod names;
+mod numbers;
 mod reading;
 
-pub use job::{Engine, Job, ProgramName, RunJob};
+pub use job::{CutJob, CutKind, Engine, Job, ProgramName, RunJob};
 pub use names::EngineName;
 pub use reading::{Usage, read_words};
 

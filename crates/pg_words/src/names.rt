@@ -1,6 +1,6 @@
 //! Words that are names: a row each.
 ghost use Rattle.std.specs.Prelude.{◌≡◌};
-ghost use Rattle.pg_words.specs.Names.{named, engines, engine_word, first_words, first_word, programs, program_word, formats, format_word, options, option_word, has_rounds, has_fuel, has_source, has_tolerance};
+ghost use Rattle.pg_words.specs.Names.{named, engines, engine_word, first_words, first_word, programs, program_word, formats, format_word, cuts, cut_word, options, option_word, has_rounds, has_fuel, has_source, has_tolerance};
 
 use pg_readers::Format;
 
@@ -49,6 +49,8 @@ pub enum FirstWord {
     Engine(EngineName),
     /// `check`, and the words of a run follow.
     Check,
+    /// `cut`, and options follow.
+    Cut,
 }
 
 impl FirstWord {
@@ -62,6 +64,8 @@ impl FirstWord {
             Some(FirstWord::Engine(EngineName::Async))
         } else if word == "check" {
             Some(FirstWord::Check)
+        } else if word == "cut" {
+            Some(FirstWord::Cut)
         } else {
             None
         }
@@ -113,10 +117,38 @@ impl ProgramWord {
     }
 }
 
+/// A cut by its word.
+#[derive(Clone, Copy)]
+pub enum CutWord {
+    Random,
+    Oblivious,
+    Coordinated,
+}
+
+impl CutWord {
+    /// The cut of a word.
+    pub fn named(word: &str) -> Option<CutWord>
+        ensures { result ≡ named cut_word cuts word.now }
+    {
+        if word == "random" {
+            Some(CutWord::Random)
+        } else if word == "oblivious" {
+            Some(CutWord::Oblivious)
+        } else if word == "coordinated" {
+            Some(CutWord::Coordinated)
+        } else {
+            None
+        }
+    }
+}
+
 /// An option by its word.
 #[derive(Clone, Copy)]
 pub enum OptionName {
     Format,
+    Workers,
+    Cut,
+    Seed,
     Rounds,
     Fuel,
     Serial,
@@ -131,6 +163,12 @@ impl OptionName {
     {
         if word == "--format" {
             Some(OptionName::Format)
+        } else if word == "--workers" {
+            Some(OptionName::Workers)
+        } else if word == "--cut" {
+            Some(OptionName::Cut)
+        } else if word == "--seed" {
+            Some(OptionName::Seed)
         } else if word == "--rounds" {
             Some(OptionName::Rounds)
         } else if word == "--fuel" {

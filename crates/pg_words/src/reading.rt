@@ -2,6 +2,7 @@
 ghost use Rattle.std.specs.Prelude.{◌≡◌, None, Some, map, IfOk, IfErr, OnErr, string_bytes};
 ghost use Rattle.pg_words.specs.Jobs.{IsJob, IsPlace};
 ghost use Rattle.pg_words.specs.Options.{with_flag};
+ghost use Rattle.pg_words.specs.Workers.{HasWorkers};
 ghost use Rattle.pg_words.specs.Reading.{standing, is_free, behind_option, next, job_at, job_of};
 
 use crate::choices::Choices;
@@ -93,6 +94,7 @@ fn is_free(head: Head, choices: Choices, option: OptionName) -> bool
 pub fn read_words(words: &[String]) -> Result<Job, Usage>
     ensures ok { IfOk result (λ job. job_of (map string_bytes words.now) ≡ Some job) }
     ensures grammar { IfOk result (λ job. IsJob (map string_bytes words.now) job) }
+    ensures workers { IfOk result HasWorkers }
     ensures err { OnErr result (job_of (map string_bytes words.now) ≡ None) }
     ensures place { IfErr result (λ usage. IsPlace (map string_bytes words.now) usage.place) }
 {

@@ -1,6 +1,6 @@
 //! Lists of words, each with its job or its place.
 
-use crate::{Engine, Job, ProgramName, RunJob, Usage, read_words};
+use crate::{CutJob, CutKind, Engine, Job, ProgramName, RunJob, Usage, read_words};
 use pg_readers::Format;
 use std::alloc::{AllocError, Global};
 use std::test::Fail;
@@ -219,6 +219,136 @@ fn options_set_what_they_say_in_any_order(rt: HostRuntime) -> Result<(), Fail> {
 }
 
 #[test]
+fn options_of_the_cut_stand_behind_every_run(rt: HostRuntime) -> Result<(), Fail> {
+    let three = |job: RunJob, seed: u64| RunJob {
+        workers: 3,
+        kind: CutKind::Random { seed },
+        ..job
+    };
+    let components = sync(ProgramName::Components);
+    let serial_components = serial(ProgramName::Components);
+    let rows = [
+        ("sync components --workers 1", Job::Run(components)),
+        ("sync components --cut random", Job::Run(components)),
+        ("sync components --seed 0", Job::Run(components)),
+        (
+            "sync components --workers 3",
+            Job::Run(three(components, 0)),
+        ),
+        (
+            "sync components --workers 064",
+            Job::Run(RunJob {
+                workers: 64,
+                ..components
+            }),
+        ),
+        (
+            "sync sssp --seed 18446744073709551615 --source 4 --workers 3",
+            Job::Run(three(sync(ProgramName::Sssp { source: 4 }), 18446744073709551615)),
+        ),
+        (
+            "async components --serial --workers 3 --cut random --seed 7",
+            Job::Run(three(serial_components, 7)),
+        ),
+        (
+            "sync components --cut oblivious",
+            Job::Run(RunJob {
+                kind: CutKind::Oblivious,
+                ..components
+            }),
+        ),
+        (
+            "async components --cut coordinated --seed 7 --serial",
+            Job::Run(RunJob {
+                kind: CutKind::Coordinated,
+                ..serial_components
+            }),
+        ),
+        (
+            "check sync components --workers 3",
+            Job::Check(three(components, 0)),
+        ),
+        (
+            "check async components --seed 007 --workers 3",
+            Job::Check(three(serial_components, 7)),
+        ),
+    ];
+    for (text, job) in rows {
+        let words = words_of(rt.alloc(), text)?;
+        assert_eq!(rt; read_words(&words), Ok(job), "{text}");
+    }
+    Ok(())
+}
+
+#[test]
+fn a_cut_stands_by_itself(rt: HostRuntime) -> Result<(), Fail> {
+    let one = CutJob {
+        format: Format::Snap,
+        workers: 1,
+        kind: CutKind::Random { seed: 0 },
+    };
+    let rows = [
+        ("cut", one),
+        (
+            "cut --workers 4 --cut coordinated",
+            CutJob {
+                workers: 4,
+                kind: CutKind::Coordinated,
+                ..one
+            },
+        ),
+        (
+            "cut --seed 7 --cut oblivious --format adj",
+            CutJob {
+                format: Format::Adj,
+                kind: CutKind::Oblivious,
+                ..one
+            },
+        ),
+        (
+            "cut --format tsv --seed 7 --workers 64",
+            CutJob {
+                format: Format::Tsv,
+                workers: 64,
+                kind: CutKind::Random { seed: 7 },
+            },
+        ),
+    ];
+    for (text, job) in rows {
+        let words = words_of(rt.alloc(), text)?;
+        assert_eq!(rt; read_words(&words), Ok(Job::Cut(job)), "{text}");
+    }
+    Ok(())
+}
+
+#[test]
+fn words_of_a_cut_have_their_place(rt: HostRuntime) -> Result<(), Fail> {
+    let rows = [
+        ("Cut", 1),
+        ("cut components", 2),
+        ("cut cut", 2),
+        ("cut sync components", 2),
+        ("cut --rounds 3", 2),
+        ("cut --fuel 3", 2),
+        ("cut --serial", 2),
+        ("cut --source 1", 2),
+        ("cut --tolerance 1", 2),
+        ("sync cut", 2),
+        ("check cut", 2),
+        ("cut --workers", 3),
+        ("cut --workers 0", 3),
+        ("cut --cut greedy", 3),
+        ("cut --cut random --cut random", 4),
+        ("cut --seed 1 --format snap --workers 1 --cut random x", 10),
+    ];
+    for (text, place) in rows {
+        let words = words_of(rt.alloc(), text)?;
+        assert_eq!(rt; read_words(&words), Err(Usage { place }), "{text}");
+    }
+    Ok(())
+}
+
+#[test]
 fn words_that_name_no_job_have_their_place(rt: HostRuntime) -> Result<(), Fail> {
     let rows = [
         ("", 1),
@@ -272,6 +402,15 @@ fn a_value_has_to_be_one_of_its_option(rt: HostRuntime) -> Result<(), Fail> {
         ("sync sssp --source", 4),
         ("sync sssp --source 4294967296", 4),
         ("sync sssp --source x --rounds 1", 4),
+        ("sync components --workers", 4),
+        ("sync components --workers 0", 4),
+        ("sync components --workers 65", 4),
+        ("sync components --workers 256", 4),
+        ("sync components --workers 00", 4),
+        ("sync components --cut x", 4),
+        ("sync components --cut Random", 4),
+        ("check async rank --cut --seed 1", 5),
+        ("async components --serial --seed 18446744073709551616", 5),
     ];
     for (text, place) in rows {
         let words = words_of(rt.alloc(), text)?;
@@ -297,6 +436,9 @@ fn an_option_stands_once_where_it_may(rt: HostRuntime) -> Result<(), Fail> {
         ("sync sssp --source 1 --source 1", 5),
         ("sync components --rounds 1 --format adj --rounds 2", 7),
         ("sync rank --tolerance 0 --rounds 0 --format snap extra", 9),
+        ("sync components --workers 1 --workers 1", 5),
+        ("sync components --cut random --seed 1 --cut random", 7),
+        ("check sync components --seed 1 --seed 1", 6),
     ];
     for (text, place) in rows {
         let words = words_of(rt.alloc(), text)?;
@@ -327,6 +469,8 @@ fn sync(program: ProgramName) -> RunJob {
         engine: Engine::Sync { rounds: 1_000_000 },
         program,
         format: Format::Snap,
+        workers: 1,
+        kind: CutKind::Random { seed: 0 },
     }
 }
 

@@ -2,6 +2,7 @@ use Rattle.std.proofs.Common.{◌≡◌, ◌+◌, length, take, map, Some, strin
 use Rattle.std.proofs.lemmas.List.{length-map, take_all}
 use Rattle.pg_words.specs.Reading.{next, job_at}
 use Rattle.pg_words.proofs.Counting.{next-IsStep, words_behind-le}
+use Rattle.pg_words.proofs.Limiting.{IsJob-HasWorkers}
 use Rattle.pg_words.proofs.Parsing.{IsJob-from_reading}
 use Rattle.pg_words.proofs.Placing.{after-push, wrong_at, wrong_behind, take_more-map}
 use Rattle.pg_words.proofs.reading.read_words.Goals as goal
@@ -43,6 +44,10 @@ returns-in-Some-job-clause-grammar c =
     let stands = rw all at c.loop-word.invariant.stands in
     IsJob-from_reading (map string_bytes c.args.words.now) c.in-Some-job.job
     (ap (option_and_then job_at) stands ∙ (sym c.job.ensures ∙ c.in-Some-job.is))
+
+pub returns-in-Some-job-clause-workers : goal.returns-in-Some-job-clause-workers
+returns-in-Some-job-clause-workers c =
+    IsJob-HasWorkers (map string_bytes c.args.words.now) c.in-Some-job.job (returns-in-Some-job-clause-grammar c)
 
 pub returns-in-None-job-clause-place : goal.returns-in-None-job-clause-place
 returns-in-None-job-clause-place c =
