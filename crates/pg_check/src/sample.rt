@@ -7,7 +7,7 @@ use pg_base::{Limits, LineCutter, MemSource, RawLine};
 use pg_input::{InputError, read_part};
 use pg_law::{Steps, VertexProgram};
 use pg_readers::Format;
-use pg_words::{Engine, ProgramName, RunJob};
+use pg_words::{CutKind, Engine, ProgramName, RunJob};
 use std::alloc::{AllocError, Global};
 use std::marker::Brand;
 
@@ -75,6 +75,8 @@ pub fn job(engine: Engine, program: ProgramName) -> RunJob {
         engine,
         program,
         format,
+        workers: 1,
+        kind: CutKind::Random { seed: 0 },
     }
 }
 

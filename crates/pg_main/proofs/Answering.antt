@@ -1,6 +1,6 @@
 -- How a job ends where no call of the outside fails.
 use Rattle.std.proofs.Common.{◌≡◌, ℕ, List, refl, sym, subst, ◌⊎◌, inl, inr}
-use Rattle.std.specs.Prelude.{Result, Ok, Err, IfOk, IsErrOf, Option, Some, None, IfSome}
+use Rattle.std.specs.Prelude.{Result, Ok, Err, IfOk, OnOk, IsErrOf, Option, Some, None, IfSome}
 use Rattle.pg_base.specs.declared.limits.Limits.{Limits}
 use Rattle.pg_graph.specs.Multigraph.{Multigraph}
 use Rattle.pg_input.specs.Reading.{IsGraphOfText, first_event}
@@ -14,11 +14,12 @@ use Rattle.pg_check.specs.declared.verdict.Verdict.TheVariants as verdict
 use Rattle.pg_main.specs.declared.refusal.Refusal.{Refusal}
 use Rattle.pg_main.specs.declared.refusal.Refusal.TheVariants as job
 use Rattle.pg_main.specs.declared.status.Status.{Status}
-use Rattle.pg_main.specs.declared.status.Status.TheVariants.{NoVertex, Memory}
+use Rattle.pg_main.specs.declared.status.Status.TheVariants.{NoVertex, Memory, Reported}
+use Rattle.pg_words.specs.declared.job.CutJob.{CutJob}
 use Rattle.pg_words.specs.declared.job.RunJob.{RunJob}
 use Rattle.pg_main.specs.Checks.{event_before, IsGraphBefore, event_behind, verdict_on, IsJudged, IsConfirmed, IsAbsentBefore, IsEventBehind, IsEventOfCheck}
-use Rattle.pg_main.specs.Jobs.{absent_source, IsAbsent, IsReported}
-use Rattle.pg_main.specs.Statuses.{status_of_end, status_of_input, status_of_verdict, settled, IsEnded, IsAnswerOn, IsAnswerBy, IsAnswer, IsCheckAnswerOn, IsCheckAnswer}
+use Rattle.pg_main.specs.Jobs.{absent_source, IsAbsent, IsReported, IsDivided}
+use Rattle.pg_main.specs.Statuses.{status_of_end, status_of_input, status_of_verdict, status_of_cut, settled, IsEnded, IsAnswerOn, IsAnswerBy, IsAnswer, IsCheckAnswerOn, IsCheckAnswer, IsCutAnswer}
 use Rattle.pg_main.proofs.Settled.{if_some, if_any}
 
 done_end : (end : End) → IsEnded (status_of_end end)
@@ -126,3 +127,38 @@ module _ (limits : Limits) (run : RunJob) where
       if_some {P = IsAbsentBefore limits id run} left (absent_before id) (absent id refl)
   check_answered before after steps_before steps_after left (Err job.WriteFault) confirmed rejected event absent read write reads writes = absurd (writes (write refl))
   check_answered before after steps_before steps_after left (Err job.Memory) confirmed rejected event absent read write reads writes = if_any left memory_before
+
+module _ (limits : Limits) (cut : CutJob) where
+  by_first_event : (event : Option InputError) (text : List ℕ) (s : Status) → event ≡ first_event cut.format limits text → IsAnswerBy event (λ t. t ≡ Reported) s → IsCutAnswer limits s cut text
+  by_first_event event text s is p = let Q : Option InputError → Type 0 = λ o. IsAnswerBy o (λ t. t ≡ Reported) s in subst Q is p
+
+  told_answer : (before after : Option (List ℕ)) (text : List ℕ) → IsDivided limits before after cut text → IsCutAnswer limits Reported cut text
+  told_answer before after text p = by_first_event None text Reported (sym p.accepted) (inl refl)
+
+  unread_answer : (e : InputError) (text : List ℕ) → first_event cut.format limits text ≡ Some e → IsCutAnswer limits (status_of_input e) cut text
+  unread_answer e text is = by_first_event (Some e) text (status_of_input e) (sym is) (inl refl)
+
+  no_memory : (text : List ℕ) → IsCutAnswer limits Memory cut text
+  no_memory text = by_case (first_event cut.format limits text) refl
+    where
+      by_case : (event : Option InputError) → event ≡ first_event cut.format limits text → IsCutAnswer limits Memory cut text
+      by_case None is = by_first_event None text Memory is (inr refl)
+      by_case (Some e) is = by_first_event (Some e) text Memory is (inr refl)
+
+  -- the answer of a cut where nothing of the outside fails
+  pub cut_answered : {InputFails OutputFails : Type 0} (before after : Option (List ℕ)) (left : Option (List ℕ)) (j : Result (Unit {0}) Refusal)
+      → OnOk j (IfSome left (IsDivided limits before after cut))
+      → ((e : InputError) → IsErrOf j (job.Input e) → IfSome left (λ text. IsEventOf (first_event cut.format limits text) e))
+      → ((id : ℕ) → IsErrOf j (job.NoVertex id) → ⊥)
+      → (IsErrOf j (job.Input input.ReadFault) → InputFails) → (IsErrOf j job.WriteFault → OutputFails)
+      → (InputFails → ⊥) → (OutputFails → ⊥) → IfSome left (IsCutAnswer limits (settled status_of_cut j) cut)
+  cut_answered before after left (Ok told) divided unread absent read write reads writes = if_some {P = IsDivided limits before after cut} left (told_answer before after) divided
+  cut_answered before after left (Err (job.Input (input.Line n k))) divided unread absent read write reads writes =
+      if_some {P = λ text. first_event cut.format limits text ≡ Some (input.Line n k)} left (λ text is. unread_answer (input.Line n k) text is) (unread (input.Line n k) refl)
+  cut_answered before after left (Err (job.Input (input.Limit w l))) divided unread absent read write reads writes =
+      if_some {P = λ text. first_event cut.format limits text ≡ Some (input.Limit w l)} left (λ text is. unread_answer (input.Limit w l) text is) (unread (input.Limit w l) refl)
+  cut_answered before after left (Err (job.Input input.ReadFault)) divided unread absent read write reads writes = absurd (reads (read refl))
+  cut_answered before after left (Err (job.Input input.Memory)) divided unread absent read write reads writes = if_any left no_memory
+  cut_answered before after left (Err (job.NoVertex id)) divided unread absent read write reads writes = absurd (absent id refl)
+  cut_answered before after left (Err job.WriteFault) divided unread absent read write reads writes = absurd (writes (write refl))
+  cut_answered before after left (Err job.Memory) divided unread absent read write reads writes = if_any left no_memory

@@ -19,11 +19,11 @@ use Rattle.pg_words.specs.Programs.{is_wide}
 use Rattle.pg_report.specs.declared.line.LastLine.{LastLine}
 use Rattle.pg_report.specs.Report.{journal_text, head_text, tail_text}
 use Rattle.pg_main.specs.Answers.{Reports, refusal_of}
-use Rattle.pg_main.specs.Counters.{ArePresent, FirstTakes}
+use Rattle.pg_main.specs.Counters.{ArePresent, Take}
 use Rattle.pg_check.specs.Outcomes.{Outcome, outcome_with, outcome_of, text_of, named_text, engine_name, HasJournalOf}
 use Rattle.pg_main.specs.declared.refusal.Refusal.{Refusal}
 use Rattle.pg_main.specs.declared.refusal.Refusal.TheVariants.{WriteFault, Memory}
-use Rattle.pg_main.proofs.Sending.{sent_part, sent_front, sent_rest}
+use Rattle.pg_report.proofs.Sending.{sent_part, sent_front, sent_rest}
 
 -- rounds have no journal
 pub no_journal : (name : ProgramName) (limit : ℕ) (g : Multigraph) → HasJournalOf name (Sync limit) g
@@ -37,20 +37,20 @@ no_journal (Tree source) limit g = tt
 pub by_error : {r : Refusal} (P : Result End Refusal → Type 0) (result : Result End Refusal) → ((e : Refusal) × (result ≡ Err e) × (e ≡ r)) → P (Err r) → P result
 by_error {r} P result known holds = subst P (sym (known.1 ∙ ap (λ (e : Refusal). Err e) known.2)) holds
 
-module _ (name : ProgramName) (engine : Engine) (g : Multigraph) (before : Option (List ℕ)) (faults : ℕ) (steps : List (Option ℕ)) where
+module _ (name : ProgramName) (engine : Engine) (g : Multigraph) (gathers : ℕ → ℕ) (before : Option (List ℕ)) (faults : ℕ) (steps : List (Option ℕ)) where
   -- memory was wanting
   pub no_memory : {after : Option (List ℕ)} {faults_after : ℕ} {steps_after : List (Option ℕ)} → SendsFront before after (named_text name engine g) → faults ≤ faults_after → ArePresent steps_after
-      → Reports name engine g before after faults faults_after steps steps_after (Err Memory)
+      → Reports name engine g gathers before after faults faults_after steps steps_after (Err Memory)
   no_memory front later present = record { end = tt; journal = tt; whole = tt; counted = tt; late = tt; front = front; fault = λ is. absurd (cc); later = later; present = present }
 
   -- the output failed
   pub failed : {after : Option (List ℕ)} {faults_after : ℕ} {steps_after : List (Option ℕ)} → SendsFront before after (named_text name engine g) → HasRisen faults faults_after → faults ≤ faults_after → ArePresent steps_after
-      → Reports name engine g before after faults faults_after steps steps_after (Err WriteFault)
+      → Reports name engine g gathers before after faults faults_after steps steps_after (Err WriteFault)
   failed front risen later present = record { end = tt; journal = tt; whole = tt; counted = tt; late = tt; front = front; fault = λ is. risen; later = later; present = present }
 
   -- a run of executions was stopped
   pub stopped : {after : Option (List ℕ)} {faults_after : ℕ} {steps_after : List (Option ℕ)} (e : AsyncError) → SendsFront before after (named_text name engine g) → (e ≡ async.WriteFault → HasRisen faults faults_after) → faults ≤ faults_after
-      → ArePresent steps_after → Reports name engine g before after faults faults_after steps steps_after (Err (refusal_of e))
+      → ArePresent steps_after → Reports name engine g gathers before after faults faults_after steps steps_after (Err (refusal_of e))
   stopped async.WriteFault front risen later present = failed front (risen refl) later present
   stopped async.Memory front risen later present = no_memory front later present
 
@@ -103,13 +103,13 @@ module _ (name : ProgramName) (engine : Engine) (g : Multigraph) (before : Optio
 
     -- all of it
     pub done : {after : Option (List ℕ)} {faults_after : ℕ} {steps_after : List (Option ℕ)} → HasJournalOf name engine g → after ≡ append_known before (named_text name engine g)
-        → FirstTakes steps steps_after last.gathers → faults ≤ faults_after → ArePresent steps_after → Reports name engine g before after faults faults_after steps steps_after (Ok last.end)
-    done {after} {faults_after} {steps_after} legal whole counted later present = let Takes : ℕ → Type 0 = λ n. FirstTakes steps steps_after n in
+        → Take steps steps_after gathers → faults ≤ faults_after → ArePresent steps_after → Reports name engine g gathers before after faults faults_after steps steps_after (Ok last.end)
+    done {after} {faults_after} {steps_after} legal whole counted later present =
         record {
           end = sym (ap (λ (o : Outcome). o.last.end) is);
           journal = legal;
           whole = whole;
-          counted = subst Takes (ap (λ (o : Outcome). o.last.gathers) is) counted;
+          counted = counted;
           late = tt;
           front = tt;
           fault = λ e. absurd (cc);

@@ -19,7 +19,7 @@ use Rattle.pg_law.specs.declared.async_end.AsyncError.{AsyncError}
 use Rattle.pg_law.specs.declared.async_end.AsyncError.TheVariants as async
 use Rattle.pg_words.specs.declared.job.Engine.{Engine}
 use Rattle.pg_words.specs.declared.job.ProgramName.{ProgramName}
-use Rattle.pg_main.specs.Counters.{ArePresent, FirstTakes}
+use Rattle.pg_main.specs.Counters.{ArePresent, FirstTakes, Take}
 use Rattle.pg_check.specs.Outcomes.{outcome_of, named_text, HasJournalOf}
 use Rattle.pg_main.specs.declared.refusal.Refusal.{Refusal}
 use Rattle.pg_main.specs.declared.refusal.Refusal.TheVariants.{Input, NoVertex, WriteFault, Memory}
@@ -36,15 +36,14 @@ abbrev pub refusal_of : AsyncError → Refusal
 refusal_of async.WriteFault = WriteFault
 refusal_of async.Memory = Memory
 
--- the report was appended and the first counter took the gathers; or a front of it was appended
-pub record Reports (name : ProgramName) (engine : Engine) (g : Multigraph)
+-- the report was appended and each counter took the gathers of its worker; or a front of it was appended
+pub record Reports (name : ProgramName) (engine : Engine) (g : Multigraph) (gathers : ℕ → ℕ)
     (before after : Option (List ℕ)) (faults_before faults_after : ℕ)
     (steps_before steps_after : List (Option ℕ)) (result : Result End Refusal) : Type 0 where
   pub end : IfOk result (λ end. (outcome_of name engine g).last.end ≡ end)
   pub journal : OnOk result (HasJournalOf name engine g)
   pub whole : OnOk result (after ≡ append_known before (named_text name engine g))
-  pub counted : OnOk result
-      (FirstTakes steps_before steps_after (outcome_of name engine g).last.gathers)
+  pub counted : OnOk result (Take steps_before steps_after gathers)
   pub late : IfErr result IsLate
   pub front : OnErr result (SendsFront before after (named_text name engine g))
   pub fault : IsErrOf result WriteFault → HasRisen faults_before faults_after

@@ -15,3 +15,8 @@ raised_by steps (Some count) = Some (count + steps)
 pub record FirstTakes (before after : List (Option ℕ)) (steps : ℕ) : Type 0 where
   pub first : counter_at after 0 ≡ raised_by steps (counter_at before 0)
   pub others : (worker : ℕ) → 0 < worker → counter_at after worker ≡ counter_at before worker
+
+-- each counter took the steps of its worker
+pub record Take (before after : List (Option ℕ)) (steps : ℕ → ℕ) : Type 0 where
+  pub each : (worker : ℕ) →
+      counter_at after worker ≡ raised_by (steps worker) (counter_at before worker)

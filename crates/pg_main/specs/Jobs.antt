@@ -14,8 +14,11 @@ use Rattle.pg_words.specs.declared.job.Job.{Job}
 use Rattle.pg_words.specs.declared.job.Job.TheVariants as job
 use Rattle.pg_words.specs.declared.job.ProgramName.{ProgramName}
 use Rattle.pg_words.specs.declared.job.ProgramName.TheVariants.{Components, Colour, Sssp, Rank, Tree}
+use Rattle.pg_words.specs.declared.job.CutJob.{CutJob}
 use Rattle.pg_words.specs.declared.job.RunJob.{RunJob}
-use Rattle.pg_main.specs.Counters.{FirstTakes}
+use Rattle.pg_main.specs.Counters.{Take}
+use Rattle.pg_main.specs.Cuts.{job_gathers}
+use Rattle.pg_main.specs.CutTexts.{job_cut_text}
 use Rattle.pg_main.specs.Meanings.{Means}
 use Rattle.pg_check.specs.Outcomes.{Outcome, outcome_of, HasJournalOf, named_text}
 
@@ -42,8 +45,8 @@ absent_in g (Some source) = if list_any (λ id. source == id) g.ids then None el
 abbrev pub absent_source : RunJob → Multigraph → Option ℕ
 absent_source job g = absent_in g (source_of job.program)
 
--- what was appended is the report of the text's graph, the run ended so, and the first counter took as
--- many steps as it gathered
+-- what was appended is the report of the text's graph, the run ended so, and each worker's counter took as
+-- many steps as the worker gathered
 pub record IsReported (limits : Limits) (before after : Option (List ℕ)) (steps_before steps_after : List (Option ℕ)) (end : End) (job : RunJob) (text : List ℕ) : Type 0 where
   pub graph : Multigraph
   pub accepted : first_event job.format limits text ≡ None
@@ -52,7 +55,7 @@ pub record IsReported (limits : Limits) (before after : Option (List ℕ)) (step
   pub ended : (job_outcome job graph).last.end ≡ end
   pub journal : HasJournalOf job.program job.engine graph
   pub appended : after ≡ append_known before (job_text job graph)
-  pub counted : FirstTakes steps_before steps_after (job_outcome job graph).last.gathers
+  pub counted : Take steps_before steps_after (job_gathers job graph)
 
 -- what was appended is the report of the text's graph, and its values mean what the program is for
 pub record IsMeant (limits : Limits) (before after : Option (List ℕ)) (job : RunJob) (text : List ℕ) : Type 0 where
@@ -76,21 +79,44 @@ pub record IsAbsent (limits : Limits) (id : ℕ) (job : RunJob) (text : List ℕ
   pub graph_of : IsGraphOfText job.format limits text graph
   pub absent : absent_source job graph ≡ Some id
 
--- what holds of a run and its text, where the text is told; the job is no check
+-- what was appended is the text of the cut of the text's graph
+pub record IsDivided (limits : Limits) (before after : Option (List ℕ)) (job : CutJob) (text : List ℕ) : Type 0 where
+  pub graph : Multigraph
+  pub accepted : first_event job.format limits text ≡ None
+  pub graph_of : IsGraphOfText job.format limits text graph
+  pub appended : after ≡ append_known before (job_cut_text job graph)
+
+-- what was appended is a front of that text
+pub record IsDividedInPart (limits : Limits) (before after : Option (List ℕ)) (job : CutJob) (text : List ℕ) : Type 0 where
+  pub graph : Multigraph
+  pub accepted : first_event job.format limits text ≡ None
+  pub graph_of : IsGraphOfText job.format limits text graph
+  pub front : SendsFront before after (job_cut_text job graph)
+
+-- what holds of a run and its text, where the text is told; the job is of no other kind
 abbrev pub RunHas : Job → Option (List ℕ) → (RunJob → List ℕ → Type 0) → Type 0
 RunHas (job.Run run) left P = IfSome left (P run)
 RunHas (job.Check run) left P = ⊥
+RunHas (job.Cut cut) left P = ⊥
 
--- what holds of a check and its text; the job is no run
+-- the same of a check
 abbrev pub CheckHas : Job → Option (List ℕ) → (RunJob → List ℕ → Type 0) → Type 0
 CheckHas (job.Run run) left P = ⊥
 CheckHas (job.Check run) left P = IfSome left (P run)
+CheckHas (job.Cut cut) left P = ⊥
 
--- what holds of a run, or of a check, and its text
+-- and of a cut
+abbrev pub CutHas : Job → Option (List ℕ) → (CutJob → List ℕ → Type 0) → Type 0
+CutHas (job.Run run) left P = ⊥
+CutHas (job.Check run) left P = ⊥
+CutHas (job.Cut cut) left P = IfSome left (P cut)
+
+-- what holds of a run, of a check, or of a cut, and its text
 abbrev pub JobHas : Job → Option (List ℕ) → (RunJob → List ℕ → Type 0) → (RunJob → List ℕ → Type 0)
-    → Type 0
-JobHas (job.Run run) left P Q = IfSome left (P run)
-JobHas (job.Check run) left P Q = IfSome left (Q run)
+    → (CutJob → List ℕ → Type 0) → Type 0
+JobHas (job.Run run) left P Q R = IfSome left (P run)
+JobHas (job.Check run) left P Q R = IfSome left (Q run)
+JobHas (job.Cut cut) left P Q R = IfSome left (R cut)
 
 -- the same of the job that the words name
 abbrev pub OfRun : List Word → Option (List ℕ) → (RunJob → List ℕ → Type 0) → Type 0
@@ -99,6 +125,9 @@ OfRun words left P = IfSome (job_of words) (λ job. RunHas job left P)
 abbrev pub OfCheck : List Word → Option (List ℕ) → (RunJob → List ℕ → Type 0) → Type 0
 OfCheck words left P = IfSome (job_of words) (λ job. CheckHas job left P)
 
+abbrev pub OfCut : List Word → Option (List ℕ) → (CutJob → List ℕ → Type 0) → Type 0
+OfCut words left P = IfSome (job_of words) (λ job. CutHas job left P)
+
 abbrev pub OfJob : List Word → Option (List ℕ) → (RunJob → List ℕ → Type 0)
-    → (RunJob → List ℕ → Type 0) → Type 0
-OfJob words left P Q = IfSome (job_of words) (λ job. JobHas job left P Q)
+    → (RunJob → List ℕ → Type 0) → (CutJob → List ℕ → Type 0) → Type 0
+OfJob words left P Q R = IfSome (job_of words) (λ job. JobHas job left P Q R)

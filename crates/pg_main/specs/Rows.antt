@@ -3,6 +3,7 @@ use Rattle.std.specs.Prelude.{ℕ, List, [], ◌∷◌, codes}
 use Rattle.pg_graph.specs.declared.edge.Edge.{Edge}
 use Rattle.pg_graph.specs.Multigraph.{Multigraph, multigraph}
 use Rattle.pg_readers.specs.declared.line.Format.TheVariants.{Snap}
+use Rattle.pg_words.specs.declared.job.CutKind.TheVariants.{Random}
 use Rattle.pg_words.specs.declared.job.Engine.TheVariants.{Sync}
 use Rattle.pg_words.specs.declared.job.ProgramName.TheVariants.{Components}
 use Rattle.pg_words.specs.declared.job.RunJob.{RunJob}
@@ -10,12 +11,14 @@ use Rattle.pg_words.specs.declared.job.RunJob.{RunJob}
 abbrev pub edge : ℕ → ℕ → Edge
 edge src dst = record { src = src; dst = dst; weight = 1 }
 
--- components of a SNAP text, in a million rounds at most
+-- components of a SNAP text by one worker, in a million rounds at most
 abbrev pub plain_job : RunJob
 plain_job = record {
   engine = Sync 1000000;
   program = Components;
   format = Snap;
+  workers = 1;
+  kind = Random 0;
 }
 
 -- a path of four vertices

@@ -1,5 +1,5 @@
 //! A job that was named: a text is read, a program is run on its graph, and the report is written.
-ghost use Rattle.std.specs.Prelude.{◌≡◌, ◌⊎◌, ◌<◌, true, [], length, Some, None, IsErrOf, IfSome, IfOk, IfErr, OnOk, OnErr};
+ghost use Rattle.std.specs.Prelude.{◌≡◌, ◌⊎◌, ◌≤◌, true, [], length, Some, None, IsErrOf, IfSome, IfOk, IfErr, OnOk, OnErr};
 ghost use Rattle.pg_base.specs.Faults.{HasRisen};
 ghost use Rattle.pg_base.specs.Limits.{IsWithinStandard};
 ghost use Rattle.pg_input.specs.Events.{IsEventOf};
@@ -14,24 +14,29 @@ use crate::laws::what_quiescence_means;
 use crate::programs::report_named;
 use crate::refusal::Refusal;
 use crate::source::find_source;
-use pg_base::{Limits, Sink, Source};
+use pg_base::{Gate, Limits, Sink, Source};
 use pg_input::read_graph;
 use pg_law::{End, Steps};
 use pg_words::RunJob;
 use std::alloc::Global;
 use std::sync::ledger::Ledger;
+use std::thread::Threads;
 
 /// Reads a text, runs a program on its graph, and writes the report.
-pub fn run_job<S: Source, K: Sink, L: Ledger>(
+pub fn run_job<R: Threads + Sync, S: Source, K: Sink, G: Gate, L: Ledger + Send>(
+    rt: &R,
     alloc: Global,
     job: RunJob,
     limits: Limits,
     input: &mut S,
     out: &mut K,
+    gate: &G,
     steps: &mut [Option<Steps<L>>],
 ) -> Result<End, Refusal>
     requires limits { IsWithinStandard limits }
-    requires some { 0 < length steps.old }
+    requires some { 1 ≤ job.workers }
+    requires few { job.workers ≤ 64 }
+    requires enough { 64 ≤ length steps.old }
     requires present { ArePresent steps.old }
     ensures reported { IfOk result (λ end. IfSome (S.left input.old)
         (IsReported limits (K.written out.old) (K.written out.new) steps.old steps.new end job)) }
@@ -62,7 +67,7 @@ pub fn run_job<S: Source, K: Sink, L: Ledger>(
     let graph = read_graph(alloc, job.format, limits, input)?;
     let _ = graph.vertices();
     find_source(job.program, &graph)?;
-    let end = report_named(alloc, job.program, job.engine, &graph, out, steps)?;
+    let end = report_named(rt, alloc, job, &graph, out, gate, steps)?;
     out.finish()?;
     Ok(end)
 }

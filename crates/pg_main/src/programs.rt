@@ -1,82 +1,110 @@
 //! A run of a program that is named.
-ghost use Rattle.std.specs.Prelude.{◌≡◌, ◌<◌, length};
+ghost use Rattle.std.specs.Prelude.{◌≡◌, ◌≤◌, length};
 ghost use Rattle.pg_graph.specs.Multigraph.{Multigraph};
+ghost use Rattle.pg_cut.specs.Cut.{Division};
 ghost use Rattle.pg_words.specs.declared.job.Engine.{Engine as Machine};
 ghost use Rattle.pg_main.specs.Answers.{Reports};
 ghost use Rattle.pg_main.specs.Counters.{ArePresent};
+ghost use Rattle.pg_main.specs.Cuts.{gathers_by, worker_gathers, job_cut, job_gathers};
 ghost use Rattle.pg_check.specs.Outcomes.{outcome_by, outcome_of, HasJournal, HasJournalOf};
 
 use crate::refusal::Refusal;
 use crate::rounds::report_rounds;
 use crate::serial::report_serial;
-use pg_base::Sink;
+use pg_base::{Gate, Sink};
 use pg_colour::Colour;
 use pg_graph::Graph;
 use pg_law::{End, Steps, VertexProgram};
 use pg_paths::{Components, Sssp, Tree};
 use pg_rank::PageRank;
-use pg_words::{Engine, ProgramName};
+use pg_words::{Engine, ProgramName, RunJob};
 use std::alloc::Global;
 use std::sync::ledger::Ledger;
+use std::thread::Threads;
 
-/// Runs a program, which has this name, and writes the report.
-fn report_run<P: VertexProgram, K: Sink, L: Ledger>(
+/// Runs a program, which is the one that the job names, and writes the report.
+fn report_run<R: Threads + Sync, P: VertexProgram, K: Sink, G: Gate, L: Ledger + Send>(
+    rt: &R,
     alloc: Global,
     program: &P,
-    name: ProgramName,
-    engine: Engine,
+    job: RunJob,
     graph: &Graph,
     out: &mut K,
+    gate: &G,
     steps: &mut [Option<Steps<L>>],
 ) -> Result<End, Refusal>
     requires named { (engine : Machine) (g : Multigraph) →
-        outcome_by (P.meaning program.now) g engine ≡ outcome_of name engine g }
+        outcome_by (P.meaning program.now) g engine ≡ outcome_of job.program engine g }
+    requires counts { (engine : Machine) (g : Multigraph) (cut : Division) (worker : _) →
+        gathers_by (P.meaning program.now) engine g cut worker
+        ≡ worker_gathers job.program engine g cut worker }
     requires legal { (engine : Machine) (g : Multigraph) →
-        HasJournal (P.meaning program.now) g engine → HasJournalOf name engine g }
-    requires some { 0 < length steps.old }
+        HasJournal (P.meaning program.now) g engine → HasJournalOf job.program engine g }
+    requires some { 1 ≤ job.workers }
+    requires few { job.workers ≤ 64 }
+    requires enough { 64 ≤ length steps.old }
     requires present { ArePresent steps.old }
-    ensures { Reports name engine graph.now (K.written out.old) (K.written out.new)
-        (K.faults out.old) (K.faults out.new) steps.old steps.new result }
+    ensures { Reports job.program job.engine graph.now (job_gathers job graph.now)
+        (K.written out.old) (K.written out.new) (K.faults out.old) (K.faults out.new)
+        steps.old steps.new result }
 {
-    match engine {
-        Engine::Sync { rounds } => report_rounds(alloc, program, name, rounds, graph, out, steps),
+    let name = job.program;
+    match job.engine {
+        Engine::Sync { rounds } => report_rounds(
+            rt,
+            alloc,
+            program,
+            name,
+            rounds,
+            job.workers,
+            job.kind,
+            graph,
+            out,
+            gate,
+            steps,
+        ),
         Engine::Serial { fuel } => report_serial(alloc, program, name, fuel, graph, out, steps),
     }
 }
 
-/// Runs the program with this name, and writes the report.
-pub fn report_named<K: Sink, L: Ledger>(
+/// Runs the program that the job names, and writes the report.
+pub fn report_named<R: Threads + Sync, K: Sink, G: Gate, L: Ledger + Send>(
+    rt: &R,
     alloc: Global,
-    name: ProgramName,
-    engine: Engine,
+    job: RunJob,
     graph: &Graph,
     out: &mut K,
+    gate: &G,
     steps: &mut [Option<Steps<L>>],
 ) -> Result<End, Refusal>
-    requires some { 0 < length steps.old }
+    requires some { 1 ≤ job.workers }
+    requires few { job.workers ≤ 64 }
+    requires enough { 64 ≤ length steps.old }
     requires present { ArePresent steps.old }
-    ensures { Reports name engine graph.now (K.written out.old) (K.written out.new)
-        (K.faults out.old) (K.faults out.new) steps.old steps.new result }
+    ensures { Reports job.program job.engine graph.now (job_gathers job graph.now)
+        (K.written out.old) (K.written out.new) (K.faults out.old) (K.faults out.new)
+        steps.old steps.new result }
 {
-    match name {
+    match job.program {
         ProgramName::Components => {
-            report_run(alloc, &Components::new(), name, engine, graph, out, steps)
+            report_run(rt, alloc, &Components::new(), job, graph, out, gate, steps)
         }
-        ProgramName::Colour => report_run(alloc, &Colour::new(), name, engine, graph, out, steps),
+        ProgramName::Colour => report_run(rt, alloc, &Colour::new(), job, graph, out, gate, steps),
         ProgramName::Sssp { source } => {
-            report_run(alloc, &Sssp::new(source), name, engine, graph, out, steps)
+            report_run(rt, alloc, &Sssp::new(source), job, graph, out, gate, steps)
         }
         ProgramName::Rank { tolerance } => report_run(
+            rt,
             alloc,
             &PageRank::new(tolerance),
-            name,
-            engine,
+            job,
             graph,
             out,
+            gate,
             steps,
         ),
         ProgramName::Tree { source } => {
-            report_run(alloc, &Tree::new(source), name, engine, graph, out, steps)
+            report_run(rt, alloc, &Tree::new(source), job, graph, out, gate, steps)
         }
     }
 }

@@ -1,21 +1,26 @@
-//! Rounds of a program, and their report.
-ghost use Rattle.std.specs.Prelude.{◌≡◌, ◌+◌, ◌<◌, [], length, IfOk};
+//! Rounds of a program, by one worker or over a cut, and their report.
+ghost use Rattle.std.specs.Prelude.{◌≡◌, ◌+◌, ◌<◌, ◌≤◌, [], length, IfOk};
 ghost use Rattle.pg_graph.specs.Multigraph.{Multigraph};
+ghost use Rattle.pg_cut.specs.Cut.{Division, IsCutOf};
 ghost use Rattle.pg_words.specs.declared.job.Engine.{Engine as Machine};
 ghost use Rattle.pg_words.specs.declared.job.Engine.TheVariants.{Sync};
 ghost use Rattle.pg_main.specs.Answers.{Reports};
-ghost use Rattle.pg_main.specs.Counters.{ArePresent, FirstTakes};
+ghost use Rattle.pg_main.specs.Counters.{ArePresent, FirstTakes, Take};
+ghost use Rattle.pg_main.specs.Cuts.{cut_by, gathers_by, worker_gathers};
 ghost use Rattle.pg_check.specs.Outcomes.{outcome_with, outcome_by, outcome_of};
 
+use crate::cut::divide;
 use crate::refusal::Refusal;
-use pg_base::Sink;
+use pg_base::{Gate, Sink};
 use pg_graph::Graph;
-use pg_law::{End, State, Steps, VertexProgram};
+use pg_law::{End, State, Steps, VertexProgram, laws_of};
 use pg_report::{LastLine, write_head, write_tail};
-use pg_rounds::run_rounds;
-use pg_words::{EngineName, ProgramName};
+use pg_rounds::run_gated_rounds;
+use pg_sync::SyncEngine;
+use pg_words::{CutKind, EngineName, ProgramName};
 use std::alloc::{AllocError, Global};
 use std::sync::ledger::Ledger;
+use std::thread::Threads;
 
 /// What rounds left, and how they ended.
 #[derive(Drop)]
@@ -24,12 +29,13 @@ struct Ended {
     pub last: LastLine,
 }
 
-/// Rounds of a program from its start, at most `limit`.
-fn rounds<P: VertexProgram, L: Ledger>(
+/// Rounds of a program from its start, at most `limit`, by one worker.
+fn rounds<P: VertexProgram, G: Gate, L: Ledger>(
     alloc: Global,
     program: &P,
     graph: &Graph,
     limit: u32,
+    gate: &G,
     steps: &mut Steps<L>,
 ) -> Result<Ended, AllocError>
     ensures outcome { IfOk result (λ ended. outcome_with [] ended.state ended.last ≡
@@ -39,7 +45,7 @@ fn rounds<P: VertexProgram, L: Ledger>(
     ensures counted { IfOk result (λ ended. steps.new ≡ steps.old + ended.last.gathers) }
 {
     let mut state = State::start(alloc, program, graph)?;
-    let end = run_rounds(alloc, program, graph, &mut state, limit, steps)?;
+    let end = run_gated_rounds(alloc, program, graph, &mut state, limit, gate, steps)?;
     Ok(Ended {
         state,
         last: LastLine {
@@ -52,11 +58,12 @@ fn rounds<P: VertexProgram, L: Ledger>(
 }
 
 /// The same with the first of the workers' counters, which takes the gathers.
-fn counted_rounds<P: VertexProgram, L: Ledger>(
+fn rounds_alone<P: VertexProgram, G: Gate, L: Ledger>(
     alloc: Global,
     program: &P,
     graph: &Graph,
     limit: u32,
+    gate: &G,
     steps: &mut [Option<Steps<L>>],
 ) -> Result<Ended, AllocError>
     requires some { 0 < length steps.old }
@@ -69,29 +76,112 @@ fn counted_rounds<P: VertexProgram, L: Ledger>(
     ensures present { ArePresent steps.new }
 {
     let mut counter = steps[0].take().unwrap();
-    let ended = rounds(alloc, program, graph, limit, &mut counter);
+    let ended = rounds(alloc, program, graph, limit, gate, &mut counter);
     steps[0] = Some(counter);
     ended
 }
 
+/// Rounds of a program from its start, at most `limit`, over a cut: each worker gathers and scatters over its own
+/// edges, and has a counter.
+fn rounds_over<R: Threads + Sync, P: VertexProgram, G: Gate, L: Ledger + Send>(
+    rt: &R,
+    alloc: Global,
+    program: &P,
+    graph: &Graph,
+    workers: u8,
+    kind: CutKind,
+    limit: u32,
+    gate: &G,
+    steps: &mut [Option<Steps<L>>],
+) -> Result<Ended, AllocError>
+    requires some { 2 ≤ workers }
+    requires few { workers ≤ 64 }
+    requires enough { 64 ≤ length steps.old }
+    requires present { ArePresent steps.old }
+    ensures outcome { IfOk result (λ ended. outcome_with [] ended.state ended.last ≡
+        outcome_by (P.meaning program.now) graph.now (Sync limit)) }
+    ensures values { IfOk result (λ ended. length ended.state.values ≡ length graph.now.ids) }
+    ensures messages { IfOk result (λ ended. length ended.state.messages ≡ length graph.now.ids) }
+    ensures counted { IfOk result (λ _. Take steps.old steps.new
+        (gathers_by (P.meaning program.now) (Sync limit) graph.now (cut_by kind workers graph.now))) }
+    ensures present { ArePresent steps.new }
+{
+    laws_of(program);
+    let _ = graph.vertices();
+    let cut = divide(alloc, graph, workers, kind)?.cut;
+    let state = State::start(alloc, program, graph)?;
+    let (own, _) = steps.split_at_mut(workers as usize);
+    let end = SyncEngine::run(rt, alloc, program, graph, &cut, state, limit, gate, own)?;
+    Ok(Ended {
+        state: end.state,
+        last: LastLine {
+            end: end.end,
+            rounds: Some(end.rounds),
+            executions: end.executions,
+            gathers: end.gathers,
+        },
+    })
+}
+
+/// Rounds of a program from its start, at most `limit`. One worker needs no cut.
+fn rounds_by<R: Threads + Sync, P: VertexProgram, G: Gate, L: Ledger + Send>(
+    rt: &R,
+    alloc: Global,
+    program: &P,
+    graph: &Graph,
+    workers: u8,
+    kind: CutKind,
+    limit: u32,
+    gate: &G,
+    steps: &mut [Option<Steps<L>>],
+) -> Result<Ended, AllocError>
+    requires some { 1 ≤ workers }
+    requires few { workers ≤ 64 }
+    requires enough { 64 ≤ length steps.old }
+    requires present { ArePresent steps.old }
+    ensures outcome { IfOk result (λ ended. outcome_with [] ended.state ended.last ≡
+        outcome_by (P.meaning program.now) graph.now (Sync limit)) }
+    ensures values { IfOk result (λ ended. length ended.state.values ≡ length graph.now.ids) }
+    ensures messages { IfOk result (λ ended. length ended.state.messages ≡ length graph.now.ids) }
+    ensures counted { IfOk result (λ _. Take steps.old steps.new
+        (gathers_by (P.meaning program.now) (Sync limit) graph.now (cut_by kind workers graph.now))) }
+    ensures present { ArePresent steps.new }
+{
+    if workers == 1 {
+        rounds_alone(alloc, program, graph, limit, gate, steps)
+    } else {
+        rounds_over(rt, alloc, program, graph, workers, kind, limit, gate, steps)
+    }
+}
+
 /// Runs rounds of a program, which has this name, and writes their report.
-pub fn report_rounds<P: VertexProgram, K: Sink, L: Ledger>(
+pub fn report_rounds<R: Threads + Sync, P: VertexProgram, K: Sink, G: Gate, L: Ledger + Send>(
+    rt: &R,
     alloc: Global,
     program: &P,
     name: ProgramName,
     limit: u32,
+    workers: u8,
+    kind: CutKind,
     graph: &Graph,
     out: &mut K,
+    gate: &G,
     steps: &mut [Option<Steps<L>>],
 ) -> Result<End, Refusal>
     requires named { (engine : Machine) (g : Multigraph) →
         outcome_by (P.meaning program.now) g engine ≡ outcome_of name engine g }
-    requires some { 0 < length steps.old }
+    requires counts { (engine : Machine) (g : Multigraph) (cut : Division) (worker : _) →
+        gathers_by (P.meaning program.now) engine g cut worker ≡ worker_gathers name engine g cut worker }
+    requires some { 1 ≤ workers }
+    requires few { workers ≤ 64 }
+    requires enough { 64 ≤ length steps.old }
     requires present { ArePresent steps.old }
-    ensures { Reports name (Sync limit) graph.now (K.written out.old) (K.written out.new)
-        (K.faults out.old) (K.faults out.new) steps.old steps.new result }
+    ensures { Reports name (Sync limit) graph.now
+        (worker_gathers name (Sync limit) graph.now (cut_by kind workers graph.now))
+        (K.written out.old) (K.written out.new) (K.faults out.old) (K.faults out.new)
+        steps.old steps.new result }
 {
-    let ended = counted_rounds(alloc, program, graph, limit, steps)?;
+    let ended = rounds_by(rt, alloc, program, graph, workers, kind, limit, gate, steps)?;
     write_head(out, EngineName::Sync, name, graph)?;
     write_tail(out, name, graph, &ended.state, ended.last)?;
     Ok(ended.last.end)

@@ -10,7 +10,9 @@ ghost use Rattle.pg_journal.specs.Entry.{entry_line};
 ghost use Rattle.pg_words.specs.declared.job.Engine.{Engine as Machine};
 ghost use Rattle.pg_words.specs.declared.job.Engine.TheVariants.{Serial};
 ghost use Rattle.pg_main.specs.Answers.{Reports};
+ghost use Rattle.pg_cut.specs.Cut.{Division};
 ghost use Rattle.pg_main.specs.Counters.{ArePresent, FirstTakes};
+ghost use Rattle.pg_main.specs.Cuts.{gathers_by, worker_gathers};
 ghost use Rattle.pg_check.specs.Outcomes.{outcome_with, outcome_by, outcome_of, journal_of, HasJournal, HasJournalOf};
 
 use crate::refusal::Refusal;
@@ -75,12 +77,16 @@ pub fn report_serial<P: VertexProgram, K: Sink, L: Ledger>(
 ) -> Result<End, Refusal>
     requires named { (engine : Machine) (g : Multigraph) →
         outcome_by (P.meaning program.now) g engine ≡ outcome_of name engine g }
+    requires counts { (engine : Machine) (g : Multigraph) (cut : Division) (worker : _) →
+        gathers_by (P.meaning program.now) engine g cut worker ≡ worker_gathers name engine g cut worker }
     requires legal { (engine : Machine) (g : Multigraph) →
         HasJournal (P.meaning program.now) g engine → HasJournalOf name engine g }
     requires some { 0 < length steps.old }
     requires present { ArePresent steps.old }
-    ensures { Reports name (Serial fuel) graph.now (K.written out.old) (K.written out.new)
-        (K.faults out.old) (K.faults out.new) steps.old steps.new result }
+    ensures { (cut : Division) → Reports name (Serial fuel) graph.now
+        (worker_gathers name (Serial fuel) graph.now cut)
+        (K.written out.old) (K.written out.new) (K.faults out.old) (K.faults out.new)
+        steps.old steps.new result }
 {
     let state = State::start(alloc, program, graph)?;
     write_head(out, EngineName::Async, name, graph)?;

@@ -11,7 +11,7 @@ use pg_input::Which;
 use pg_readers::BadLine;
 
 /// Writes texts one after another.
-fn write_parts<K: Sink>(sink: &mut K, parts: &[&[u8]]) -> Result<(), Failed>
+pub fn write_parts<K: Sink>(sink: &mut K, parts: &[&[u8]]) -> Result<(), Failed>
     ensures { Writes (K.written sink.old) (K.written sink.new) (K.faults sink.old) (K.faults sink.new)
         (flat_map (λ part. part.now) parts.now) result }
 {
@@ -27,7 +27,9 @@ pub fn tell<E: Sink>(err: &mut E, status: Status) -> Result<(), Failed>
         (error_line status) result }
 {
     match status {
-        Status::Quiescent | Status::Spent | Status::Confirmed => write_whole(err, b""),
+        Status::Quiescent | Status::Spent | Status::Confirmed | Status::Reported => {
+            write_whole(err, b"")
+        }
         Status::Usage { place } => write_parts(
             err,
             &[

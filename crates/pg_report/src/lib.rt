@@ -11,7 +11,7 @@ mod write;
 pub use line::{LastLine, ReportLine};
 pub use put::put_line;
 pub use read::read_report_line;
-pub use write::{write_head, write_tail};
+pub use write::{write_counts, write_head, write_tail};
 
 #[cfg(test)]
 mod tests;

@@ -44,7 +44,8 @@ pub fn write_tail<K: Sink>(
     write_line(sink, ReportLine::Last { last })
 }
 
-fn write_counts<K: Sink>(sink: &mut K, graph: &Graph) -> Result<(), Failed>
+/// Writes the counts of the graph, or a front of them where the sink fails.
+pub fn write_counts<K: Sink>(sink: &mut K, graph: &Graph) -> Result<(), Failed>
     ensures { Writes (K.written sink.old) (K.written sink.new) (K.faults sink.old) (K.faults sink.new)
         (ended (counts_line graph.now)) result }
 {

@@ -4,7 +4,7 @@ use Rattle.std.proofs.lemmas.Result.{err_from_is_err_and}
 use Rattle.pg_input.specs.Reading.{IsGraphOfText, first_event}
 use Rattle.pg_main.specs.Jobs.{IsReported, IsReportedInPart, IsMeant}
 use Rattle.pg_main.proofs.Reports.{if_both}
-use Rattle.pg_main.proofs.Sending.{whole_front}
+use Rattle.pg_report.proofs.Sending.{whole_front}
 use Rattle.pg_main.proofs.job.run_job.Goals as goal
 
 pub returns-clause-reported : goal.returns-clause-reported
