@@ -47,7 +47,7 @@ in_last n [] = inl refl
 in_last n (x ∷ xs) = inr (in_last n xs)
 
 -- a number that passes stands among those that do
-numbers_have : (test : ℕ → Bool) (n e : ℕ) → e < n → test e ≡ true → IsIn e (filter test (range_with_len 0 n))
+pub numbers_have : (test : ℕ → Bool) (n e : ℕ) → e < n → test e ≡ true → IsIn e (filter test (range_with_len 0 n))
 numbers_have test zero e i t = absurd (omega arith)
 numbers_have test (suc n) e i t = subst (λ k. IsIn e (filter test (range_with_len 0 k))) (add-one n) (subst (IsIn e) (sym (filter_numbers_more test n)) (go (λ j. numbers_have test n e j t) (same_or_not e n)))
   where

@@ -17,3 +17,13 @@ pub mod Stuck
 pub mod Passes
 pub mod Sparing
 pub mod Signals
+pub mod Once
+pub mod Entries
+pub mod Shown
+pub mod Boards
+pub mod Exchanges
+pub mod Opening
+pub mod Opened
+pub mod Carrying
+pub mod Steps
+pub mod Tables

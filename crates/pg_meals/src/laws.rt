@@ -4,6 +4,7 @@ ghost use Rattle.pg_meals.specs.Stuck.{NeverStuck};
 ghost use Rattle.pg_meals.specs.Passes.{AtMostOnePass};
 ghost use Rattle.pg_meals.specs.Signals.{SignalsStay, EntriesRankLast};
 ghost use Rattle.pg_meals.specs.Sparing.{GathersSpared, CostsStay};
+ghost use Rattle.pg_meals.specs.Carrying.{KeptCanAct, ActsCarry, HalvesCarry, StartIsKept};
 
 use pg_law::{VertexProgram, laws_of};
 
@@ -70,6 +71,28 @@ pub fn gathers_spared<P: VertexProgram>(program: &P)
 /// From the preparing of a vertex to its entry, no deed changes what it takes in calls of gather.
 pub fn costs_stay<P: VertexProgram>(program: &P)
     ensures { CostsStay (P.meaning program.now) }
+{
+    laws_of(program);
+}
+
+/// A board whose core keeps its promise can act.
+pub fn kept_can_act<P: VertexProgram>(program: &P)
+    ensures { KeptCanAct (P.meaning program.now) }
+{
+    laws_of(program);
+}
+
+/// After each of its acts its core keeps the promise.
+pub fn acts_carry<P: VertexProgram>(program: &P)
+    ensures acts { ActsCarry (P.meaning program.now) }
+    ensures halves { HalvesCarry (P.meaning program.now) }
+{
+    laws_of(program);
+}
+
+/// A board at the start keeps it, whose state fits the graph and whose cells are true.
+pub fn start_is_kept<P: VertexProgram>(program: &P)
+    ensures { StartIsKept (P.meaning program.now) }
 {
     laws_of(program);
 }

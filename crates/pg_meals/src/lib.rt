@@ -1,4 +1,23 @@
-//! The pure core of the asynchronous engine: its definitions and its laws.
+//! The pure core of the asynchronous engine: its definitions, its laws, and the board that makes its
+//! acts.
 #![tactic(auto)]
 
+pub mod act;
+pub mod actor;
+pub mod board;
+mod claiming;
+mod committing;
+mod ends;
+pub mod finding;
+pub mod fork;
 pub mod laws;
+mod leaving;
+mod mirrors;
+mod opening;
+mod pinning;
+pub mod seat;
+mod stepping;
+pub mod table;
+#[cfg(test)]
+mod tests;
+mod turning;

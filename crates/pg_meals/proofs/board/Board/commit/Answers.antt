@@ -1,0 +1,121 @@
+use Rattle.std.proofs.Common.{ℕ, ◌<◌, ◌≡◌, length, true, false, Some, refl, sym, ap, subst, ◌∙◌, arith}
+use Rattle.std.specs.Prelude.{map, Vec}
+use Rattle.std.specs.declared.alloc.Global.{Global}
+use Rattle.std.proofs.lemmas.Grind.{common_steps}
+use Rattle.pg_graph.specs.declared.edge.Side.{Side}
+use Rattle.pg_graph.specs.Multigraph.{end_at, edge_at, is_at, edges_at}
+use Rattle.pg_meals.specs.declared.seat.Replica.{Replica}
+use Rattle.pg_meals.specs.declared.actor.Ready.{Ready}
+use Rattle.pg_meals.specs.declared.actor.Actor.{Actor}
+use Rattle.pg_meals.specs.Acts.{Entered}
+use Rattle.pg_meals.specs.Once.{is_among, Once}
+use Rattle.pg_meals.specs.Entries.{is_actor, no_seat, idle, fork_at, actor_at, replicas_at}
+use Rattle.pg_meals.specs.Shown.{core_from}
+use Rattle.pg_meals.specs.Exchanges.{AreExchanged, made_stale}
+use Rattle.pg_meals.proofs.At.{some_of}
+use Rattle.pg_meals.proofs.ListReads.{read_any}
+use Rattle.pg_meals.proofs.Marking.{not_false}
+use Rattle.pg_meals.proofs.Around.{distinct_numbers}
+use Rattle.pg_meals.proofs.Initial.{once_of}
+use Rattle.pg_meals.proofs.Holding.{is_actor_of, pins_are}
+use Rattle.pg_meals.proofs.Copied.{row_at}
+use Rattle.pg_meals.proofs.Staled.{stale_after}
+use Rattle.pg_meals.proofs.Entered.{planned_is, enter_shows}
+use Rattle.pg_meals.proofs.board.Board.commit.Goals as goal
+
+pub edges_of-requires : goal.edges_of-requires
+edges_of-requires g c =
+    let b = c.args.self.now in
+    let a : ℕ = c.args.actor in
+    let v : ℕ = c.in-Some-vertex.vertex in
+    let actor_is = c.index-record.ensures ∙ read_any b.actors.items a c.index-record.result.now idle c.requires.actor in
+    let busy : (actor_at b.actors.items a).vertex ≡ Some v = ap (λ (z : Actor). z.vertex) (sym actor_is) ∙ c.in-Some-vertex.is in
+    let inside : v < length c.args.graph.now.ids = c.requires.board.inside a v busy in
+    inside
+
+pub exchange-requires-clause-once : goal.exchange-requires-clause-once
+exchange-requires-clause-once g c =
+    subst Once (sym c.edges_of.ensures.value) (once_of (edges_at c.args.graph.now c.in-Some-vertex.vertex) (distinct_numbers (λ e. is_at c.in-Some-vertex.vertex (edge_at c.args.graph.now e)) (length c.args.graph.now.edges)))
+
+pub index_mut-requires : goal.index_mut-requires
+index_mut-requires g c =
+    let b = c.args.self.now in
+    let a : ℕ = c.args.actor in
+    let v : ℕ = c.in-Some-vertex.vertex in
+    let actor_is = c.index-record.ensures ∙ read_any b.actors.items a c.index-record.result.now idle c.requires.actor in
+    let busy : (actor_at b.actors.items a).vertex ≡ Some v = ap (λ (z : Actor). z.vertex) (sym actor_is) ∙ c.in-Some-vertex.is in
+    let inside : v < length c.args.graph.now.ids = c.requires.board.inside a v busy in
+    omega (arith, inside, c.requires.board.replicas)
+
+pub index_mut-seat-requires : goal.index_mut-seat-requires
+index_mut-seat-requires g c =
+    let b = c.args.self.now in
+    let a : ℕ = c.args.actor in
+    let v : ℕ = c.in-Some-vertex.vertex in
+    let actor_is = c.index-record.ensures ∙ read_any b.actors.items a c.index-record.result.now idle c.requires.actor in
+    let busy : (actor_at b.actors.items a).vertex ≡ Some v = ap (λ (z : Actor). z.vertex) (sym actor_is) ∙ c.in-Some-vertex.is in
+    let inside : v < length c.args.graph.now.ids = c.requires.board.inside a v busy in
+    omega (arith, inside, c.requires.board.seats)
+
+pub returns-clause-acts : goal.returns-clause-acts
+returns-clause-acts g c = λ w d.
+    let b = c.args.self.now in
+    let a : ℕ = c.args.actor in
+    let v : ℕ = c.in-Some-vertex.vertex in
+    let actor_is = c.index-record.ensures ∙ read_any b.actors.items a c.index-record.result.now idle c.requires.actor in
+    let busy : (actor_at b.actors.items a).vertex ≡ Some v = ap (λ (z : Actor). z.vertex) (sym actor_is) ∙ c.in-Some-vertex.is in
+    let inside : v < length c.args.graph.now.ids = c.requires.board.inside a v busy in
+    let graph = c.args.graph.now in
+    let q : Ready = c.in-Some.ready in
+    let v_in : v < length b.seats.items = omega (arith, inside, c.requires.board.seats) in
+    let row_in : v < length b.replicas.items = omega (arith, inside, c.requires.board.replicas) in
+    let turn : (actor_at b.actors.items a).turn ≡ true = ap (λ (z : Actor). z.turn) (sym actor_is) ∙ not_false c.index-record.result.now.turn c.if-not-record.false in
+    let fresh : (actor_at b.actors.items a).committed ≡ false = ap (λ (z : Actor). z.committed) (sym actor_is) ∙ c.if-record.false in
+    let ready : (actor_at b.actors.items a).ready ≡ Some q = ap (λ (z : Actor). z.ready) (sym actor_is) ∙ c.in-Some.is in
+    let seat_is = c.index_mut-seat.ensures.value ∙ read_any b.seats.items v c.index_mut-seat.result.now (no_seat d) v_in in
+    let row_is : c.make_stale.new.row.items ≡ map made_stale (replicas_at b.replicas.items v)
+    = c.make_stale.ensures ∙ ap (map made_stale) (ap (λ (r : Vec Replica Global). r.items) c.index_mut.ensures.value ∙ sym (row_at b.replicas.items v c.index_mut.result.now row_in)) in
+    let here : (e : ℕ) → is_actor a (fork_at w b.forks.items e).mark.pinner ≡ true → (e < length graph.edges) × (s : Side) × (end_at graph s e ≡ v)
+    = λ e t. (let at = c.requires.board.held w a e (is_actor_of a (fork_at w b.forks.items e).mark.pinner t) in (at.0, (fork_at w b.forks.items e).mark.word.side, some_of _ v (sym at.1 ∙ busy))) in
+    let among : (e : ℕ) → is_among e (edges_at graph v) ≡ is_actor a (fork_at w b.forks.items e).mark.pinner
+    = pins_are graph v (λ e. is_actor a (fork_at w b.forks.items e).mark.pinner) here (λ s e i at. c.requires.board.ready w a v e s q ready fresh busy i at) in
+    let swapped : AreExchanged b.forks.items (edges_at graph v) c.exchange.new.forks.items = subst (λ es. AreExchanged b.forks.items es c.exchange.new.forks.items) c.edges_of.ensures.value c.exchange.ensures.exchanged in
+    let alone : (o : ℕ) → (actor_at b.actors.items o).vertex ≡ Some v → o ≡ a = λ o p. some_of o a (sym (c.requires.board.names d o v p) ∙ c.requires.board.names d a v busy) in
+    let shown = enter_shows w d b.seats.items b.forks.items c.exchange.new.forks.items b.replicas.items b.actors.items b.turn b.journal.items a v (edges_at graph v) c.index-record.result.now q c.index_mut-seat.result.now c.swap.new.x c.swap.new.y c.make_stale.new.row
+    c.requires.actor v_in row_in actor_is seat_is c.swap.ensures.x_after swapped row_is among busy ready alone in
+    let room : length b.journal.items < b.fuel = omega (arith, c.if-number-self.false, c.len-number.ensures) in
+    let number : c.len-number.result ≡ length b.journal.items = omega (arith, c.len-number.ensures) in (
+      v,
+      _,
+      busy,
+      turn,
+      fresh,
+      planned_is w d b.seats.items b.forks.items c.exchange.new.forks.items b.replicas.items b.actors.items b.turn b.journal.items a v (edges_at graph v) c.index-record.result.now q c.index_mut-seat.result.now c.swap.new.x c.swap.new.y c.make_stale.new.row
+          c.requires.actor v_in row_in actor_is seat_is c.swap.ensures.x_after swapped row_is among busy ready alone,
+      room,
+      ap (core_from _ _ _ _ b.turn) c.push_reserved.ensures.items ∙ shown,
+      ap Entered number,
+    )
+
+pub returns-clause-frame : goal.returns-clause-frame
+returns-clause-frame g c =
+    let b = c.args.self.now in
+    let a : ℕ = c.args.actor in
+    let v : ℕ = c.in-Some-vertex.vertex in
+    let actor_is = c.index-record.ensures ∙ read_any b.actors.items a c.index-record.result.now idle c.requires.actor in
+    let busy : (actor_at b.actors.items a).vertex ≡ Some v = ap (λ (z : Actor). z.vertex) (sym actor_is) ∙ c.in-Some-vertex.is in
+    let inside : v < length c.args.graph.now.ids = c.requires.board.inside a v busy in
+    let row_in : v < length b.replicas.items = omega (arith, inside, c.requires.board.replicas) in
+    let row_is : c.make_stale.new.row.items ≡ map made_stale (replicas_at b.replicas.items v)
+    = c.make_stale.ensures ∙ ap (map made_stale) (ap (λ (r : Vec Replica Global). r.items) c.index_mut.ensures.value ∙ sym (row_at b.replicas.items v c.index_mut.result.now row_in)) in
+    record {
+      workers = refl;
+      homes = stale_after b.replicas.items v c.make_stale.new.row row_in row_is;
+      fuel = refl;
+      room = c.push_reserved.ensures.capacity;
+      caches = refl;
+      seats = grind (arith, common_steps);
+      replicas = grind (arith, common_steps);
+      forks = c.exchange.ensures.len;
+      actors = grind (arith, common_steps);
+    }

@@ -1,0 +1,85 @@
+//! The entry of an execution.
+ghost use Rattle.std.specs.Prelude.{◌≡◌, ◌<◌, length, map, All, MatchOption, IsNone};
+ghost use Rattle.pg_meals.specs.Once.{Once};
+ghost use Rattle.pg_meals.specs.Acts.{Commit, Entered};
+ghost use Rattle.pg_meals.specs.Exchanges.{AreExchanged, made_stale};
+ghost use Rattle.pg_meals.specs.Boards.{IsBoard, Frame, Acts, MayNot};
+
+use crate::actor::Actor;
+use crate::board::Board;
+use crate::fork::Fork;
+use crate::seat::Replica;
+use pg_graph::Graph;
+use pg_law::JournalEntry;
+use std::mem::swap;
+
+/// At each of these edges, what was prepared and what rides there change places.
+fn exchange<A: Drop>(forks: &mut Vec<Fork<A>>, edges: &[u32])
+    requires inside { All (λ e. e < length forks.old.items) edges.now }
+    requires once { Once edges.now }
+    ensures exchanged { AreExchanged forks.old.items edges.now forks.new.items }
+    ensures len { length forks.new.items ≡ length forks.old.items }
+{
+    for edge in edges {
+        let fork = &mut forks[*edge as usize];
+        swap(&mut fork.content, &mut fork.prepared);
+    }
+}
+
+/// Each of these replicas has an entry yet to be written to it.
+fn make_stale(row: &mut Vec<Replica>)
+    ensures { row.new.items ≡ map made_stale row.old.items }
+{
+    for place in 0..row.len() {
+        row[place].stale = true;
+    }
+}
+
+impl<A: Drop> Board<A> {
+    /// The actor makes the entry of its vertex: the vertex and its forks become what was prepared.
+    ///
+    /// It takes the turn, and room in the journal.
+    pub fn commit(&mut self, graph: &Graph, actor: u32) -> Option<u64>
+        requires actor { actor < length self.old.actors.items }
+        requires board { IsBoard graph.now self.old }
+        ensures acts { MatchOption result
+            (self.new ≡ self.old)
+            (λ number. Acts graph.now self.old actor Commit self.new (Entered number)) }
+        ensures refused { IsNone result → MayNot graph.now self.old actor Commit }
+        ensures frame { Frame self.old self.new }
+    {
+        let record = self.actors[actor as usize];
+        if !record.turn {
+            return None;
+        }
+        if record.committed {
+            return None;
+        }
+        let Some(ready) = record.ready else {
+            return None;
+        };
+        let Some(vertex) = record.vertex else {
+            return None;
+        };
+        let number = self.journal.len();
+        if number >= self.fuel as usize {
+            return None;
+        }
+        let datum = ready.datum;
+        self.journal.push_reserved(JournalEntry { vertex, datum });
+        exchange(&mut self.forks, graph.edges_of(vertex));
+        make_stale(&mut self.replicas[vertex as usize]);
+        let seat = &mut self.seats[vertex as usize];
+        let before = seat.datum;
+        seat.datum = datum;
+        seat.message = ready.again;
+        swap(&mut seat.cell, &mut seat.prepared);
+        self.actors[actor as usize] = Actor {
+            committed: true,
+            ready: None,
+            before,
+            ..record
+        };
+        Some(number as u64)
+    }
+}
