@@ -1,13 +1,9 @@
 -- Lists, one for each worker, that grow.
-use Rattle.std.proofs.Common.{◌≡◌, ℕ, ◌+◌, ◌<◌, Bool, true, false, cond, ◌==◌, Vec, Global, List, [], ◌∷◌, ◌++◌, length, get_or, set, map, take, refl, sym, ◌∙◌, ap, arith, inl, inr, length-set}
-use Rattle.std.specs.Prelude.{filter}
-use Rattle.std.specs.List.{range_with_len, flat_map, AllByRecursion}
+use Rattle.std.proofs.Common.{◌≡◌, ℕ, ◌<◌, cond, ◌==◌, Vec, Global, List, [], ◌∷◌, ◌++◌, length, get_or, set, map, refl, sym, ◌∙◌, ap, arith, inl, inr, length-set}
+use Rattle.std.specs.List.{range_with_len}
 use Rattle.std.proofs.lemmas.Bool.{cases_eq, eq-eqb, ne_eqb}
-use Rattle.std.proofs.lemmas.List.{map-set, get_or-set_same, get_or-set_other, get_or-map, length-map, append-nil, append_assoc, take_more, map-append}
-use Rattle.std.proofs.lemmas.List.Elements.{filter-append}
-use Rattle.std.proofs.lemmas.List.Concat.{flat_map-append}
+use Rattle.std.proofs.lemmas.List.{map-set, get_or-set_same, get_or-set_other, get_or-map, length-map, append-nil, append_assoc}
 use Rattle.std.proofs.lemmas.List.FromFn.{fill_by_all, length-map-range_with_len, get_or-map-range_with_len}
-use Rattle.pg_graph.proofs.Numbers.{numbers_more}
 use Rattle.pg_cut.specs.ByWorker.{lists_in, Appends}
 
 -- one list of several grows
@@ -65,29 +61,6 @@ appends_none lists more none = record {
   count = refl;
   each = λ w h. sym (ap (λ xs. get_or lists w [] ++ xs) (none w) ∙ append-nil (get_or lists w []));
 }
-
--- the items of a list that pass a test, and one more
-pub passing_more : {A : Type 0} (f : ℕ → A) (p : ℕ → Bool) (xs : List ℕ) (i : ℕ) (b : Bool) (x : A) → i < length xs → p (get_or xs i 0) ≡ b → f (get_or xs i 0) ≡ x
-    → map f (filter p (take i xs)) ++ cond b (x ∷ []) [] ≡ map f (filter p (take (i + 1) xs))
-passing_more f p xs i b x h e is =
-    let at = get_or xs i 0 in
-    sym (ap (λ ys. map f (filter p ys)) (take_more xs i 0 h) ∙ ap (map f) (filter-append p (take i xs) (at ∷ [])) ∙ map-append f (filter p (take i xs)) (filter p (at ∷ []))
-    ∙ ap (λ ys. map f (filter p (take i xs)) ++ ys) (last (p at) b e))
-  where
-    last : (c d : Bool) → c ≡ d → map f (cond c (get_or xs i 0 ∷ []) []) ≡ cond d (x ∷ []) []
-    last true true e = ap (λ y. y ∷ []) is
-    last false false e = refl
-    last true false e = absurd (cc e)
-    last false true e = absurd (cc e)
-
--- what belongs to one more vertex
-pub joined_more : {A : Type 0} (f : ℕ → List A) (n : ℕ) → flat_map f (range_with_len 0 n) ++ f n ≡ flat_map f (range_with_len 0 (n + 1))
-joined_more f n = sym (ap (flat_map f) (numbers_more n) ∙ flat_map-append f (range_with_len 0 n) (n ∷ []) ∙ ap (λ xs. flat_map f (range_with_len 0 n) ++ xs) (append-nil (f n)))
-
--- two functions that agree on the items of a list
-pub map_agree : {A : Type 0} (P : ℕ → Type 0) (f h : ℕ → A) → ((x : ℕ) → P x → f x ≡ h x) → (xs : List ℕ) → AllByRecursion P xs → map f xs ≡ map h xs
-map_agree P f h agree [] all = refl
-map_agree P f h agree (x ∷ xs) all = rw (agree x all.0, map_agree P f h agree xs all.1) refl
 
 -- one of several lists
 pub list_read : {A : Type 0} (list : ℕ → List A) (n : ℕ) (lists : List (Vec A Global)) (w : ℕ) (x : Vec A Global) → lists_in lists ≡ map list (range_with_len 0 n) → w < n → x ≡ get_or lists w x → x.items ≡ list w

@@ -12,7 +12,7 @@ use Rattle.std.proofs.lemmas.Nat.Bits.{bit_at_above}
 use Rattle.pg_graph.specs.Multigraph.{Multigraph, edges_at, is_at, edge_at, vertices}
 use Rattle.pg_graph.proofs.Numbers.{filter_numbers_each}
 use Rattle.pg_cut.specs.WorkerSet.{workers_in, workers_that, has, is_in, all_workers}
-use Rattle.pg_cut.specs.Cut.{IsPlacement, in_span, span_of, master_of, span_in, vertices_on, division, ends_on, cut_of}
+use Rattle.pg_cut.specs.Cut.{IsPlacement, in_span, span_of, master_of, span_in, vertices_on, division, cut_of}
 use Rattle.pg_cut.proofs.Passing.{filter_agree_below, passing_longer}
 
 -- a fold over a mapped list
@@ -50,9 +50,9 @@ held_is w h spans = fold_agree _ _ (λ c bits. ap (λ b. c + cond b 1 0) (sym (i
 pub replicas_are : (spans : List ℕ) → sum_by (λ bits. length (workers_in bits)) spans ≡ sum_by length (map workers_in spans)
 replicas_are spans = sym (fold-map (λ c span. c + length span) workers_in 0 spans)
 
-pub masters_are : (workers : ℕ) (place bits : List ℕ) (ends : List (List (ℕ × ℕ))) → map (λ v. master_of (workers_in (get_or bits v 0)) v) (range_with_len 0 (length bits))
-    ≡ map (λ v. master_of (span_in (division workers place bits ends) v) v) (range_with_len 0 (length (map workers_in bits)))
-masters_are workers place bits ends = rw (length-map bits workers_in)
+pub masters_are : (workers : ℕ) (place bits : List ℕ) → map (λ v. master_of (workers_in (get_or bits v 0)) v) (range_with_len 0 (length bits))
+    ≡ map (λ v. master_of (span_in (division workers place bits) v) v) (range_with_len 0 (length (map workers_in bits)))
+masters_are workers place bits = rw (length-map bits workers_in)
     (map_agree_below _ _ 0 (length bits) (λ v h. ap (λ span. master_of span v) (sym (get_or-map workers_in bits v 0 [] h))))
 
 -- what a list that a function of the numbers makes has at a place
@@ -114,16 +114,15 @@ in_span_within g workers place placed v w t = ⊎_elim alone among (cases_Bool (
         omega (arith, placed.each at.1 inside, eqb-true (get_or place at.1 0) w at.4)
 
 -- the vertices of a worker, by bits and by lists
-pub vertices_are : (workers : ℕ) (place bits : List ℕ) (ends : List (List (ℕ × ℕ))) (w : ℕ) → w < 64
-    → filter (λ v. has (get_or bits v 0) w) (range_with_len 0 (length bits)) ≡ vertices_on (division workers place bits ends) w
-vertices_are workers place bits ends w h =
-    filter_agree_below (λ v. has (get_or bits v 0) w) (λ v. is_in w (span_in (division workers place bits ends) v)) (length bits)
+pub vertices_are : (workers : ℕ) (place bits : List ℕ) (w : ℕ) → w < 64
+    → filter (λ v. has (get_or bits v 0) w) (range_with_len 0 (length bits)) ≡ vertices_on (division workers place bits) w
+vertices_are workers place bits w h =
+    filter_agree_below (λ v. has (get_or bits v 0) w) (λ v. is_in w (span_in (division workers place bits) v)) (length bits)
     (λ v below. sym (is_in-workers_in (get_or bits v 0) w h) ∙ ap (is_in w) (sym (get_or-map workers_in bits v 0 [] below)))
-    ∙ ap (λ n. filter (λ v. is_in w (span_in (division workers place bits ends) v)) (range_with_len 0 n)) (sym (length-map bits workers_in))
+    ∙ ap (λ n. filter (λ v. is_in w (span_in (division workers place bits) v)) (range_with_len 0 n)) (sym (length-map bits workers_in))
 
-pub made_cut : (g : Multigraph) (workers : ℕ) (place bits : List ℕ) (ends : List (List (ℕ × ℕ))) → map workers_in bits ≡ map (span_of g workers place) (vertices g) → ends ≡ map (ends_on g place) (range_with_len 0 workers)
-    → division workers place bits ends ≡ cut_of g workers place
-made_cut g workers place bits ends spans_are ends_are = rw (spans_are, ends_are) refl
+pub made_cut : (g : Multigraph) (workers : ℕ) (place bits : List ℕ) → map workers_in bits ≡ map (span_of g workers place) (vertices g) → division workers place bits ≡ cut_of g workers place
+made_cut g workers place bits spans_are = rw spans_are refl
 
 -- lists that were made from a slice of the places, for as many workers as a list of counts has
 pub lists_for : {X : Type 0} (list : List ℕ → ℕ → X) (place placed counts slice : List ℕ) (workers : ℕ) (lists : List X) → lists ≡ map (list placed) (range_with_len 0 (length slice)) → placed ≡ place → slice ≡ counts → length counts ≡ workers

@@ -4,5 +4,5 @@ pub mod Counting
 pub mod Kept
 pub mod Searching
 pub mod Appending
-pub mod Stretches
 pub mod Blocks
+pub mod Replicas

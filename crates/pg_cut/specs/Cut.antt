@@ -1,15 +1,14 @@
 -- What a placement of the edges makes of the vertices, after PowerGraph's vertex-cuts.
-use Rattle.std.specs.Prelude.{◌≡◌, ℕ, ◌<◌, ◌≤◌, ◌%◌, Bool, ◌==◌, List, [], length, slice_index, slice_index_or, map, filter, take, count_by, sum_by, if◌then◌else◌}
-use Rattle.std.specs.List.{list_any, range_with_len, flat_map}
+use Rattle.std.specs.Prelude.{◌≡◌, ℕ, ◌<◌, ◌≤◌, ◌%◌, Bool, ◌==◌, List, [], length, slice_index, slice_index_or, map, filter, count_by, sum_by, if◌then◌else◌}
+use Rattle.std.specs.List.{list_any, range_with_len}
 use Rattle.pg_graph.specs.Multigraph.{Multigraph, vertices, edges_at}
 use Rattle.pg_cut.specs.WorkerSet.{workers_that, workers_in, is_in}
 
--- so many workers, the worker of each edge, the span of each vertex, and the ends on each worker
+-- so many workers, the worker of each edge, and the span of each vertex
 pub record Division : Type 0 where
   pub workers : ℕ
   pub place : List ℕ
   pub spans : List (List ℕ)
-  pub ends : List (List (ℕ × ℕ))
 
 -- a worker for each edge
 pub record IsPlacement (g : Multigraph) (workers : ℕ) (place : List ℕ) : Type 0 where
@@ -34,26 +33,12 @@ abbrev pub edges_on : List ℕ → ℕ → List ℕ
 edges_on place worker =
     filter (λ e. slice_index place e == worker) (range_with_len 0 (length place))
 
--- where an edge stands among those of its worker
-abbrev pub rank_of : List ℕ → ℕ → ℕ
-rank_of place e = count_by (λ w. w == slice_index place e) (take e place)
-
--- an end of an edge: its vertex, and where the edge stands among those of its worker
-abbrev pub ends_at : Multigraph → List ℕ → ℕ → ℕ → List (ℕ × ℕ)
-ends_at g place worker v =
-    map (λ e. (v, rank_of place e)) (filter (λ e. slice_index place e == worker) (edges_at g v))
-
--- the ends on a worker, ascending by vertex and then by edge
-abbrev pub ends_on : Multigraph → List ℕ → ℕ → List (ℕ × ℕ)
-ends_on g place worker = flat_map (ends_at g place worker) (vertices g)
-
 -- the cut that a placement makes
 abbrev pub cut_of : Multigraph → ℕ → List ℕ → Division
 cut_of g workers place = record {
   workers = workers;
   place = place;
   spans = map (span_of g workers place) (vertices g);
-  ends = map (ends_on g place) (range_with_len 0 workers);
 }
 
 -- a cut of this graph
@@ -61,7 +46,6 @@ pub record IsCutOf (g : Multigraph) (cut : Division) : Type 0 where
   pub placed : IsPlacement g cut.workers cut.place
   pub count : length cut.spans ≡ length g.ids
   pub spans_are : cut.spans ≡ map (span_of g cut.workers cut.place) (vertices g)
-  pub ends_are : cut.ends ≡ map (ends_on g cut.place) (range_with_len 0 cut.workers)
 
 abbrev pub span_in : Division → ℕ → List ℕ
 span_in cut v = slice_index_or cut.spans v []
@@ -86,12 +70,11 @@ abbrev pub replicas_of : Division → ℕ
 replicas_of cut = sum_by length cut.spans
 
 -- a division whose spans are kept as bits
-abbrev pub division : ℕ → List ℕ → List ℕ → List (List (ℕ × ℕ)) → Division
-division workers place bits ends = record {
+abbrev pub division : ℕ → List ℕ → List ℕ → Division
+division workers place bits = record {
   workers = workers;
   place = place;
   spans = map workers_in bits;
-  ends = ends;
 }
 
 -- what a cut keeps beside its division
@@ -100,7 +83,6 @@ pub record IsKept (cut : Division) (masters loads held : List ℕ) (replicas : �
   pub some : 1 ≤ cut.workers
   pub few : cut.workers ≤ 64
   pub placed : (e : ℕ) → e < length cut.place → slice_index cut.place e < cut.workers
-  pub ends_count : length cut.ends ≡ cut.workers
   pub masters_are :
       masters ≡ map (λ v. master_of (span_in cut v) v) (range_with_len 0 (length cut.spans))
   pub loads_are : loads ≡ map (load_of cut) (range_with_len 0 cut.workers)

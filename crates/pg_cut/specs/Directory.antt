@@ -1,7 +1,7 @@
 -- Where the keys of each block of 64 numbers begin among ascending keys.
 use Rattle.std.specs.Prelude.{◌≡◌, ℕ, ◌+◌, ◌-◌, ◌*◌, ◌/◌, nat_lt, List, length, slice_index_or, map, count_by}
 use Rattle.std.specs.List.{range_with_len}
-use Rattle.pg_cut.specs.Rows.{IsKeys}
+use Rattle.pg_cut.specs.Keys.{IsKeys}
 
 -- how many keys are below a number
 abbrev pub keys_below : List ℕ → ℕ → ℕ

@@ -1,6 +1,6 @@
 pub mod WorkerSet
 pub mod Cut
 pub mod Mix
-pub mod Rows
+pub mod Keys
 pub mod Directory
 pub mod ByWorker

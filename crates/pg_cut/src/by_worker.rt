@@ -1,36 +1,29 @@
-//! Lists, one for each worker: its edges, its vertices, and the ends of its edges.
+//! Lists, one for each worker: its edges and its vertices.
 //!
 //! Each is filled in one pass over the edges or the vertices, into room that was counted before.
 ghost use Rattle.std.specs.Prelude.{◌≡◌, ℕ, ◌+◌, ◌<◌, ◌≤◌, ◌^◌, ◌==◌, [], ◌∷◌, length, map, All};
 ghost use Rattle.std.specs.Prelude.{filter, slice_index, if◌then◌else◌, IfOk, OnOk};
 ghost use Rattle.std.specs.List.{range_with_len};
 ghost use Rattle.pg_cut.specs.ByWorker.{lists_in, Appends};
-ghost use Rattle.pg_cut.specs.Cut.{IsPlacement, rank_of, edges_on as all_edges_on};
-ghost use Rattle.pg_cut.specs.Cut.{ends_on as all_ends_on};
+ghost use Rattle.pg_cut.specs.Cut.{edges_on as all_edges_on};
 ghost use Rattle.pg_cut.specs.WorkerSet.{has, IsWithin};
 
 use crate::worker_set::{lowest, without};
-use pg_graph::Graph;
 use std::alloc::{AllocError, Global};
 
-/// An empty list for each of these numbers, with room for `times` as many items.
-fn empty_lists<T: Copy + Drop>(
-    alloc: Global,
-    rooms: &[u32],
-    times: usize,
-) -> Result<Vec<Vec<T>>, AllocError>
-    requires { times ≤ 2 }
+/// An empty list for each of these numbers, with room for so many items.
+fn empty_lists(alloc: Global, rooms: &[u32]) -> Result<Vec<Vec<u32>>, AllocError>
     ensures { IfOk result (λ lists. lists_in lists.items ≡ map (λ _. []) rooms.now) }
 {
     let mut lists = Vec::with_capacity(alloc, rooms.len())?;
     for room in rooms {
-        lists.push(Vec::with_capacity(alloc, times * *room as usize)?)?;
+        lists.push(Vec::with_capacity(alloc, *room as usize)?)?;
     }
     Ok(lists)
 }
 
 /// Puts an item at the back of a worker's list.
-fn push_at<T: Copy + Drop>(lists: &mut Vec<Vec<T>>, worker: u8, item: T) -> Result<(), AllocError>
+fn push_at(lists: &mut Vec<Vec<u32>>, worker: u8, item: u32) -> Result<(), AllocError>
     requires { worker < length lists.old.items }
     ensures { OnOk result (Appends (lists_in lists.old.items) (lists_in lists.new.items)
         (λ w. if worker == w then item ∷ [] else [])) }
@@ -50,7 +43,7 @@ pub fn edges_by_worker(
     ensures { IfOk result (λ lists. lists_in lists.items ≡
         map (all_edges_on place.now) (range_with_len 0 (length loads.now))) }
 {
-    let mut lists = empty_lists(alloc, loads, 1)?;
+    let mut lists = empty_lists(alloc, loads)?;
     for e in 0..place.len() {
         push_at(&mut lists, place[e], e as u32)?;
     }
@@ -85,52 +78,9 @@ pub fn vertices_by_worker(
         (range_with_len 0 (length spans.now)))
         (range_with_len 0 (length held.now))) }
 {
-    let mut lists = empty_lists(alloc, held, 1)?;
+    let mut lists = empty_lists(alloc, held)?;
     for v in 0..spans.len() {
         push_to_each(&mut lists, spans[v], v as u32)?;
-    }
-    Ok(lists)
-}
-
-/// Puts the ends at a vertex at the back of the lists of their workers.
-fn push_ends(
-    lists: &mut Vec<Vec<(u32, u32)>>,
-    v: u32,
-    edges: &[u32],
-    place: &[u8],
-    ranks: &[u32],
-) -> Result<(), AllocError>
-    requires edges { (i : ℕ) → i < length edges.now → slice_index edges.now i < length place.now }
-    requires place { (e : ℕ) → e < length place.now →
-        slice_index place.now e < length lists.old.items }
-    requires ranks { length ranks.now ≡ length place.now }
-    ensures { OnOk result (Appends (lists_in lists.old.items) (lists_in lists.new.items)
-        (λ w. map (λ e. (v, slice_index ranks.now e))
-        (filter (λ e. slice_index place.now e == w) edges.now))) }
-{
-    for e in edges {
-        push_at(lists, place[*e as usize], (v, ranks[*e as usize]))?;
-    }
-    Ok(())
-}
-
-/// The ends of each worker's edges, ascending by vertex and then by edge. `loads` are the numbers
-/// of the edges.
-pub fn ends_by_worker(
-    alloc: Global,
-    graph: &Graph,
-    place: &[u8],
-    ranks: &[u32],
-    loads: &[u32],
-) -> Result<Vec<Vec<(u32, u32)>>, AllocError>
-    requires placed { IsPlacement graph.now (length loads.now) place.now }
-    requires ranks { ranks.now ≡ map (rank_of place.now) (range_with_len 0 (length place.now)) }
-    ensures { IfOk result (λ lists. lists_in lists.items ≡
-        map (all_ends_on graph.now place.now) (range_with_len 0 (length loads.now))) }
-{
-    let mut lists = empty_lists(alloc, loads, 2)?;
-    for v in 0..graph.vertices() {
-        push_ends(&mut lists, v, graph.edges_of(v), place, ranks)?;
     }
     Ok(lists)
 }

@@ -1,14 +1,13 @@
 //! A cut of a graph's edges among workers.
-ghost use Rattle.std.specs.Prelude.{◌≡◌, ◌<◌, ◌≤◌, ◌^◌, [], length, slice_index};
-ghost use Rattle.std.specs.Prelude.{slice_index_or, IfOk};
+ghost use Rattle.std.specs.Prelude.{◌≡◌, ◌<◌, ◌≤◌, ◌^◌, length, slice_index, IfOk};
 ghost use Rattle.pg_cut.specs.WorkerSet.{workers_in};
 ghost use Rattle.pg_cut.specs.Cut.{Division, IsPlacement, IsCutOf, cut_of, span_in, master_of};
 ghost use Rattle.pg_cut.specs.Cut.{load_of, held_by, replicas_of as all_replicas_of};
 ghost use Rattle.pg_cut.specs.Cut.{edges_on as all_edges_on, vertices_on as all_vertices_on};
 
-use crate::by_worker::{edges_by_worker, ends_by_worker, vertices_by_worker};
+use crate::by_worker::{edges_by_worker, vertices_by_worker};
 use crate::span::{masters_of, spans_of};
-use crate::tally::{helds_of, loads_of, ranks_of, replicas_of};
+use crate::tally::{helds_of, loads_of, replicas_of};
 use pg_graph::Graph;
 use std::alloc::{AllocError, Global};
 use std::marker::Model;
@@ -17,8 +16,7 @@ use std::marker::Model;
 ///
 /// `place[e]` is the worker of the edge `e`. `spans[v]` has a bit for each worker in the span of
 /// the vertex `v`, and `masters[v]` is its master. `loads[w]` and `held[w]` are how many edges and
-/// replicas the worker `w` has, and `edges[w]` and `vertices[w]` are which. `ends[w]` has for each
-/// end of an edge there its vertex, and where the edge stands in `edges[w]`. So the parts of one
+/// replicas the worker `w` has, and `edges[w]` and `vertices[w]` are which. So the parts of one
 /// worker are made without a look at those of the others.
 #[derive(Drop)]
 pub struct Cut {
@@ -31,7 +29,6 @@ pub struct Cut {
     replicas: u64,
     edges: Vec<Vec<u32>>,
     vertices: Vec<Vec<u32>>,
-    ends: Vec<Vec<(u32, u32)>>,
 }
 
 impl Model for Cut {
@@ -40,10 +37,10 @@ impl Model for Cut {
 
     ghost Value = { Division };
 
-    ghost view = { λ c. division c.workers c.place.items c.spans.items (lists_in c.ends.items) };
+    ghost view = { λ c. division c.workers c.place.items c.spans.items };
 
     ghost invariant = { λ c.
-        IsKept (division c.workers c.place.items c.spans.items (lists_in c.ends.items))
+        IsKept (division c.workers c.place.items c.spans.items)
         c.masters.items c.loads.items c.held.items c.replicas
         (lists_in c.edges.items) (lists_in c.vertices.items) };
 }
@@ -63,10 +60,8 @@ impl Cut {
         let loads = loads_of(alloc, workers, placed)?;
         let held = helds_of(alloc, workers, bits)?;
         let replicas = replicas_of(bits);
-        let ranks = ranks_of(alloc, workers, placed)?;
         let edges = edges_by_worker(alloc, placed, loads.as_slice())?;
         let vertices = vertices_by_worker(alloc, bits, held.as_slice())?;
-        let ends = ends_by_worker(alloc, graph, placed, ranks.as_slice(), loads.as_slice())?;
         Ok(Cut {
             workers,
             place,
@@ -77,7 +72,6 @@ impl Cut {
             replicas,
             edges,
             vertices,
-            ends,
         })
     }
 
@@ -152,14 +146,5 @@ impl Cut {
         ensures { result.now ≡ all_vertices_on self.now worker }
     {
         self.vertices[worker as usize].as_slice()
-    }
-
-    /// The ends of the edges on a worker: the vertex of each, and where its edge stands among those
-    /// on the worker. They ascend by vertex, and at a vertex by edge.
-    pub fn ends_on(&self, worker: u8) -> &[(u32, u32)]
-        requires { worker < self.now.workers }
-        ensures { result.now ≡ slice_index_or self.now.ends worker [] }
-    {
-        self.ends[worker as usize].as_slice()
     }
 }

@@ -2,7 +2,7 @@
 ghost use Rattle.std.specs.Prelude.{◌≡◌, ℕ, ◌+◌, ◌-◌, ◌*◌, ◌<◌, ◌≤◌, ◌^◌, ◌↔◌, length};
 ghost use Rattle.std.specs.Prelude.{slice_index, IfOk, IfSome, IsSome, Contains};
 ghost use Rattle.std.specs.List.Sorted.{IsStrictlyIncreasing};
-ghost use Rattle.pg_cut.specs.Rows.{IsKeys};
+ghost use Rattle.pg_cut.specs.Keys.{IsKeys};
 
 use crate::directory::{BLOCK, directory_of};
 use pg_law::Steps;

@@ -6,7 +6,6 @@ mod cut;
 mod directory;
 mod keys;
 mod mix;
-mod rows;
 mod span;
 mod tally;
 #[cfg(test)]
@@ -16,5 +15,4 @@ mod worker_set;
 pub use cut::Cut;
 pub use keys::Keys;
 pub use mix::random;
-pub use rows::Rows;
 pub use worker_set::{has_worker, lowest, size, with_worker, without, worker_at};

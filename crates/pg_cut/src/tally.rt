@@ -3,7 +3,6 @@ ghost use Rattle.std.specs.Prelude.{◌≡◌, ℕ, ◌+◌, ◌-◌, ◌<◌, �
 ghost use Rattle.std.specs.Prelude.{length, map, slice_index, count_by, sum_by, IfOk};
 ghost use Rattle.std.specs.List.{range_with_len};
 ghost use Rattle.pg_cut.specs.WorkerSet.{has, is_in, workers_in, IsWithin};
-ghost use Rattle.pg_cut.specs.Cut.{rank_of};
 
 use crate::worker_set::{lowest, size, without};
 use std::alloc::{AllocError, Global};
@@ -21,23 +20,6 @@ pub fn loads_of(alloc: Global, workers: u8, place: &[u8]) -> Result<Vec<u32>, Al
         loads[worker] += 1;
     }
     Ok(loads)
-}
-
-/// Where each edge stands among those of its worker.
-pub fn ranks_of(alloc: Global, workers: u8, place: &[u8]) -> Result<Vec<u32>, AllocError>
-    requires few { length place.now < 2 ^ 32 }
-    requires place { (e : ℕ) → e < length place.now → slice_index place.now e < workers }
-    ensures { IfOk result (λ ranks. ranks.items ≡
-        map (rank_of place.now) (range_with_len 0 (length place.now))) }
-{
-    let mut seen = vec![in alloc; 0u32; workers as usize]?;
-    let mut ranks = Vec::with_capacity(alloc, place.len())?;
-    for e in 0..place.len() {
-        let worker = place[e] as usize;
-        ranks.push(seen[worker])?;
-        seen[worker] += 1;
-    }
-    Ok(ranks)
 }
 
 /// Counts one more for each worker of a set.

@@ -1,9 +1,8 @@
-//! The path of four vertices on three workers, a lone vertex, the mix, keys in blocks, and rows of
-//! three pairs.
+//! The path of four vertices on three workers, a lone vertex, the mix, and keys in blocks.
 ghost use Rattle.std.specs.Prelude.{◌≡◌, IfOk};
 ghost use Rattle.pg_cut.specs.Cut.{IsCutOf};
 
-use crate::{Cut, Keys, Rows, random};
+use crate::{Cut, Keys, random};
 use pg_base::Limits;
 use pg_graph::{Graph, GraphBuilder};
 use pg_law::Steps;
@@ -56,19 +55,18 @@ fn spans_masters_and_replicas_follow_from_the_places(rt: HostRuntime) -> Result<
 }
 
 #[test]
-fn each_worker_has_its_edges_vertices_and_ends(rt: HostRuntime) -> Result<(), Fail> {
+fn each_worker_has_its_edges_and_vertices(rt: HostRuntime) -> Result<(), Fail> {
     let graph = path(rt.alloc())?;
     let cut = cut_by(&rt, rt.alloc(), &graph, 3, &[1, 0, 1])?;
-    let rows: [(u8, &[u32], &[u32], &[(u32, u32)]); 3] = [
-        (0, &[1], &[1, 2], &[(1, 0), (2, 0)]),
-        (1, &[0, 2], &[0, 1, 2, 3], &[(0, 0), (1, 0), (2, 1), (3, 1)]),
-        (2, &[], &[], &[]),
+    let rows: [(u8, &[u32], &[u32]); 3] = [
+        (0, &[1], &[1, 2]),
+        (1, &[0, 2], &[0, 1, 2, 3]),
+        (2, &[], &[]),
     ];
-    for (worker, edges, vertices, ends) in rows {
+    for (worker, edges, vertices) in rows {
         assert!(rt; worker < cut.workers());
         assert_eq!(rt; cut.edges_on(worker), edges, "worker {worker}");
         assert_eq!(rt; cut.vertices_on(worker), vertices, "worker {worker}");
-        assert_eq!(rt; cut.ends_on(worker), ends, "worker {worker}");
         assert_eq!(rt; cut.load(worker) as usize, edges.len(), "worker {worker}");
         assert_eq!(rt;
             cut.held(worker) as usize,
@@ -171,24 +169,5 @@ fn keys_of_full_blocks_are_found(rt: HostRuntime) -> Result<(), Fail> {
         let keys = keys_of(&rt, rt.alloc(), numbers.as_slice())?;
         finds_the_keys(&rt, &keys, numbers.as_slice(), 0, 400);
     }
-    Ok(())
-}
-
-#[test]
-fn rows_are_found_by_halving(rt: HostRuntime) -> Result<(), Fail> {
-    let rows = Rows::of(rt.alloc(), &[(2, 0), (2, 3), (5, 1)])?;
-    assert_eq!(rt; rows.keys(), 2);
-    for (key, place) in [(5, Some(1)), (4, None), (2, Some(0)), (0, None), (9, None)] {
-        let mut steps = Steps::<Brand>::new();
-        assert_eq!(rt; rows.find(key, &mut steps), place, "key {key}");
-    }
-    assert_eq!(rt; rows.row(0), [0, 3].as_slice());
-    assert_eq!(rt; rows.row(1), [1].as_slice());
-    assert_eq!(rt; rows.at(5), [1].as_slice());
-    assert!(rt; rows.at(4).is_empty());
-    let mut steps = Steps::<Brand>::new();
-    assert_eq!(rt; rows.key(1, &mut steps), 5);
-    let none = Rows::of(rt.alloc(), &[])?;
-    assert_eq!(rt; (none.keys(), none.find(5, &mut steps)), (0, None));
     Ok(())
 }

@@ -1,19 +1,14 @@
 -- Data that are pushed to replicas.
-use Rattle.std.proofs.Common.{◌≡◌, ◌≢◌, ℕ, zero, suc, ◌+◌, ◌<◌, ◌≤◌, Bool, true, List, [], ◌∷◌, ◌++◌, length, get_or, set, refl, sym, ◌∙◌, ap, arith, ⊎_elim}
-use Rattle.std.specs.Prelude.{filter, All, AllPairs, Contains}
-use Rattle.std.specs.List.{range_with_len}
+use Rattle.std.proofs.Common.{◌≡◌, ◌≢◌, ℕ, zero, suc, ◌+◌, ◌<◌, List, [], ◌∷◌, ◌++◌, length, get_or, set, refl, sym, ◌∙◌, ap, arith, ⊎_elim}
+use Rattle.std.specs.Prelude.{All, Contains}
 use Rattle.std.specs.List.Sorted.{IsStrictlyIncreasing}
 use Rattle.std.proofs.lemmas.Bool.{cases_lt}
 use Rattle.std.proofs.lemmas.List.{get_or-set_same, get_or-set_other, length-set, length_push, get_or_push, get_or_append_left, get_or_default}
 use Rattle.std.proofs.lemmas.List.Elements.{All-push}
-use Rattle.std.proofs.lemmas.List.Kept.{AllPairs-filter}
-use Rattle.std.proofs.lemmas.List.FromFn.{length-range_with_len, get_or-range_with_len}
-use Rattle.pg_graph.proofs.Numbers.{filter_numbers_each, length_filter_within}
 use Rattle.pg_law.specs.declared.values.Datum.{Datum}
 use Rattle.pg_law.specs.Values.{one}
-use Rattle.pg_cut.specs.WorkerSet.{is_in}
-use Rattle.pg_cut.specs.Cut.{Division, span_in, vertices_on}
-use Rattle.pg_cut.proofs.Passing.{passing_longer, passing_at}
+use Rattle.pg_cut.proofs.Replicas.{spans_have, has_replica}
+pub use Rattle.pg_cut.proofs.Replicas.{vertices_rise, vertices_inside, vertices_fewer}
 use Rattle.pg_cut.proofs.Searching.{below_at}
 use Rattle.pg_mirrors.specs.Mirrors.{Mirrors, mirrors, datum_at, Pushes, ReplicasAreInSpans}
 
@@ -95,33 +90,5 @@ pushes_more old between new masters v datum apart first second =
     last i hi e = second.listed 0 (v, datum) (omega arith) i (inside i hi) (vertex_is i ∙ e)
 
 -- replicas are where spans have the worker
-module _ (cut : Division) (worker : ℕ) where
-  test : ℕ → Bool
-  test v = is_in worker (span_in cut v)
-
-  spans_have : (v : ℕ) → Contains (vertices_on cut worker) v → is_in worker (span_in cut v) ≡ true
-  spans_have v there = let each = filter_numbers_each (λ u. is_in worker (span_in cut u)) (length cut.spans) there.0 v there.1 in ap (λ u. is_in worker (span_in cut u)) (sym there.2) ∙ each.1
-
-  has_replica : (v : ℕ) → v < length cut.spans → is_in worker (span_in cut v) ≡ true → Contains (vertices_on cut worker) v
-  has_replica v h t =
-      let p = λ (u : ℕ). is_in worker (span_in cut u) in
-      let place = length (filter p (range_with_len 0 v)) in
-      let inside = passing_longer p v (length cut.spans) h t in
-      (place, inside, get_or_default (vertices_on cut worker) place v 0 inside ∙ passing_at p v (length cut.spans) h t)
-
 pub replicas_in_spans : ReplicasAreInSpans
 replicas_in_spans cut worker v h = (spans_have cut worker v, has_replica cut worker v h)
-
--- the vertices of a worker ascend, and are vertices of the graph
-pub vertices_rise : (cut : Division) (worker : ℕ) → IsStrictlyIncreasing (vertices_on cut worker)
-vertices_rise cut worker = λ k h. AllPairs-filter (λ a b. a < b) (λ v. is_in worker (span_in cut v)) (range_with_len 0 (length cut.spans)) numbers_rise k (k + 1) 0 (omega arith) h
-  where
-    numbers_rise : AllPairs (λ a b. a < b) (range_with_len 0 (length cut.spans))
-    numbers_rise = λ i j d lt h. let below : j < length cut.spans = omega (arith, length-range_with_len 0 (length cut.spans)) in
-        rw (get_or-range_with_len 0 (length cut.spans) i d (omega arith), get_or-range_with_len 0 (length cut.spans) j d below) (omega arith)
-
-pub vertices_inside : (cut : Division) (worker : ℕ) → All (λ v. v < length cut.spans) (vertices_on cut worker)
-vertices_inside cut worker = λ k d h. (filter_numbers_each (λ v. is_in worker (span_in cut v)) (length cut.spans) k d h).0
-
-pub vertices_fewer : (cut : Division) (worker : ℕ) → length (vertices_on cut worker) ≤ length cut.spans
-vertices_fewer cut worker = omega (arith, length_filter_within (λ v. is_in worker (span_in cut v)) (range_with_len 0 (length cut.spans)), length-range_with_len 0 (length cut.spans))

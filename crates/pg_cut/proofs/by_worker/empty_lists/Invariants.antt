@@ -3,4 +3,4 @@ use Rattle.pg_cut.specs.ByWorker.{lists_in}
 use Rattle.pg_cut.proofs.by_worker.empty_lists.Given as goal
 
 abbrev pub invariant-loop-room : goal.invariant-loop-room
-invariant-loop-room g l = lists_in l.lists.items ≡ map (λ _. []) (take l.room-index l.rooms)
+invariant-loop-room l = lists_in l.lists.items ≡ map (λ _. []) (take l.room-index l.rooms)

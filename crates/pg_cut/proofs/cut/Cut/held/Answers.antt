@@ -1,15 +1,14 @@
 use Rattle.std.proofs.Common.{arith}
 use Rattle.pg_cut.specs.Cut.{division, held_by}
-use Rattle.pg_cut.specs.ByWorker.{lists_in}
 use Rattle.pg_cut.proofs.Kept.{made_read, made_length}
 use Rattle.pg_cut.proofs.cut.Cut.held.Goals as goal
 
 pub index-requires : goal.index-requires
 index-requires c = let within = rw (← c.self.view_is) at c.requires in
-    let cut = division c.self.inside.workers c.self.inside.place.items c.self.inside.spans.items (lists_in c.self.inside.ends.items) in
+    let cut = division c.self.inside.workers c.self.inside.place.items c.self.inside.spans.items in
     omega (arith, made_length (held_by cut) cut.workers c.self.inside.held.items c.self.invariant.held_are)
 
 pub returns : goal.returns
 returns c = let within = rw (← c.self.view_is) at c.requires in
-    let cut = division c.self.inside.workers c.self.inside.place.items c.self.inside.spans.items (lists_in c.self.inside.ends.items) in
+    let cut = division c.self.inside.workers c.self.inside.place.items c.self.inside.spans.items in
     rw (← c.self.view_is) (made_read (held_by cut) cut.workers c.self.inside.held.items c.args.worker _ c.self.invariant.held_are within c.index.ensures)
