@@ -1,12 +1,13 @@
-//! The edges that a cut places on one worker, with a row of places for each vertex and direction.
+//! The edges that a cut places on one worker, as a graph of their own between its replicas.
 #![tactic(auto)]
 
 mod around;
+mod between;
 mod laws;
 mod store;
 #[cfg(test)]
 mod tests;
 
 pub use around::Around;
-pub use laws::places_are_edges;
+pub use laws::{places_are_edges, rows_are_places, rows_in_a_direction, sides_are_sides};
 pub use store::EdgeStore;

@@ -1,31 +1,31 @@
 //! The edges of one worker.
-ghost use Rattle.std.specs.Prelude.{◌≡◌, ◌<◌, length, map, filter, slice_index, slice_set};
-ghost use Rattle.std.specs.Prelude.{◌↔◌, [], All, IfOk, IsTrue};
-ghost use Rattle.pg_graph.specs.Multigraph.{Multigraph, edge_at, side_of};
-ghost use Rattle.pg_graph.specs.Multigraph.{takes as takes_in};
-ghost use Rattle.pg_graph.specs.declared.edge.Dir.TheVariants.{AllEdges};
-ghost use Rattle.pg_cut.specs.Cut.{IsCutOf, edges_on};
-ghost use Rattle.pg_cut.specs.Rows.{IsTableOf};
-ghost use Rattle.pg_edge_store.specs.Store.{Store, IsStoreOf, IsOver, places_around};
+ghost use Rattle.std.specs.Prelude.{◌≡◌, ◌<◌, length, map, slice_index, slice_index_or};
+ghost use Rattle.std.specs.Prelude.{slice_set, ◌↔◌, [], All, IfOk, IsTrue};
+ghost use Rattle.pg_graph.specs.Multigraph.{Multigraph};
+ghost use Rattle.pg_cut.specs.Cut.{IsCutOf};
+ghost use Rattle.pg_edge_store.specs.Store.{IsStoreOf, IsOver, HasWeights, local_at};
+ghost use Rattle.pg_edge_store.specs.Store.{places_around};
 
 use crate::around::Around;
-use pg_cut::{Cut, Rows};
-use pg_graph::{Dir, Graph};
+use crate::between::{edges_between, rows_of};
+use pg_cut::{Cut, Keys};
+use pg_graph::{Dir, Edge, Graph, Rows};
 use std::alloc::{AllocError, Global};
 use std::marker::Model;
 
-/// The edges that a cut places on one worker, in ascending order.
+/// The edges that a cut places on one worker, in ascending order, as a graph of their own.
 ///
 /// `numbers[i]` is the number of the i-th of them in the graph, and `words[i]` is its edge word,
-/// whose meaning is the program's. The rows have the places `i` at each vertex, of edges into it,
-/// out of it, and of both.
+/// whose meaning is the program's. `vertices` are those that have a replica on the worker,
+/// ascending, and `edges[i]` stands between the places in it of the ends of the i-th edge. The row
+/// of a replica has the places `i` of the edges at it.
 #[derive(Drop)]
 pub struct EdgeStore {
     numbers: Vec<u32>,
     words: Vec<u64>,
-    into: Rows,
-    out: Rows,
-    all: Rows,
+    vertices: Keys,
+    edges: Vec<Edge>,
+    rows: Rows,
 }
 
 impl Model for EdgeStore {
@@ -33,9 +33,10 @@ impl Model for EdgeStore {
 
     ghost Value = { Store };
 
-    ghost view = { λ s. store s.numbers.items s.words.items s.into s.out s.all };
+    ghost view = { λ s. store s.numbers.items s.words.items s.vertices s.edges.items s.rows };
 
-    ghost invariant = { λ s. IsKept s.numbers.items s.words.items };
+    ghost invariant = { λ s.
+        IsKept (store s.numbers.items s.words.items s.vertices s.edges.items s.rows) };
 }
 
 /// The words of these edges.
@@ -48,67 +49,6 @@ fn words_at(alloc: Global, numbers: &[u32], words: &[u64]) -> Result<Vec<u64>, A
         own.push(words[*e as usize])?;
     }
     Ok(own)
-}
-
-/// The ends at which a direction takes the edge in.
-fn ends_over(
-    alloc: Global,
-    graph: &Graph,
-    numbers: &[u32],
-    ends: &[(u32, u32)],
-    dir: Dir,
-) -> Result<Vec<(u32, u32)>, AllocError>
-    requires numbers { All (λ e. e < length graph.now.edges) numbers.now }
-    requires ends { All (λ end. end.1 < length numbers.now) ends.now }
-    ensures { IfOk result (λ kept. kept.items ≡ filter (λ end. takes_in dir
-        (side_of end.0 (edge_at graph.now (slice_index numbers.now end.1)))) ends.now) }
-{
-    let edges = graph.edges();
-    let mut kept = Vec::with_capacity(alloc, numbers.len())?;
-    for end in ends {
-        let (v, place) = *end;
-        let edge = edges[numbers[place as usize] as usize];
-        if dir.takes(edge.side(v)) {
-            kept.push(*end)?;
-        }
-    }
-    Ok(kept)
-}
-
-/// The places of these edges of a worker by the vertex that has them in a direction.
-fn rows_over(
-    alloc: Global,
-    graph: &Graph,
-    cut: &Cut,
-    worker: u8,
-    numbers: &[u32],
-    dir: Dir,
-) -> Result<Rows, AllocError>
-    requires cut { IsCutOf graph.now cut.now }
-    requires worker { worker < cut.now.workers }
-    requires numbers { numbers.now ≡ edges_on cut.now.place worker }
-    ensures { IfOk result (IsTableOf (λ v. places_around graph.now numbers.now v dir)) }
-{
-    let _ = graph.vertices();
-    let kept = ends_over(alloc, graph, numbers, cut.ends_on(worker), dir)?;
-    Rows::of(alloc, kept.as_slice())
-}
-
-/// The same for both ends of each edge, from the ends as the cut has them.
-fn rows_at(
-    alloc: Global,
-    graph: &Graph,
-    cut: &Cut,
-    worker: u8,
-    numbers: &[u32],
-) -> Result<Rows, AllocError>
-    requires cut { IsCutOf graph.now cut.now }
-    requires worker { worker < cut.now.workers }
-    requires numbers { numbers.now ≡ edges_on cut.now.place worker }
-    ensures { IfOk result (IsTableOf (λ v. places_around graph.now numbers.now v AllEdges)) }
-{
-    let _ = graph.vertices();
-    Rows::of(alloc, cut.ends_on(worker))
 }
 
 impl EdgeStore {
@@ -125,20 +65,21 @@ impl EdgeStore {
         requires words { length words.now ≡ length graph.now.edges }
         ensures store { IfOk result (IsStoreOf graph.now cut.now worker) }
         ensures words { IfOk result (λ s. s.words ≡ map (slice_index words.now) s.numbers) }
+        ensures weights { IfOk result (HasWeights graph.now) }
     {
         let _ = graph.vertices();
         let numbers = Vec::from_slice(alloc, cut.edges_on(worker))?;
-        let edges = numbers.as_slice();
-        let own = words_at(alloc, edges, words)?;
-        let into = rows_over(alloc, graph, cut, worker, edges, Dir::InEdges)?;
-        let out = rows_over(alloc, graph, cut, worker, edges, Dir::OutEdges)?;
-        let all = rows_at(alloc, graph, cut, worker, edges)?;
+        let vertices = cut.vertices_on(worker);
+        let own = words_at(alloc, numbers.as_slice(), words)?;
+        let edges = edges_between(alloc, graph, numbers.as_slice(), vertices)?;
+        let rows = rows_of(alloc, vertices, edges.as_slice())?;
+        let vertices = Keys::of(alloc, Vec::from_slice(alloc, vertices)?)?;
         Ok(EdgeStore {
             numbers,
             words: own,
-            into,
-            out,
-            all,
+            vertices,
+            edges,
+            rows,
         })
     }
 
@@ -181,21 +122,48 @@ impl EdgeStore {
         self.words[i as usize] = word;
     }
 
+    /// How many vertices have a replica on the worker.
+    pub fn replicas(&self) -> u32
+        ensures { result ≡ length self.now.vertices }
+    {
+        self.vertices.len()
+    }
+
+    /// The edge at a place, between the replicas of its ends, with its weight in the graph.
+    pub fn local(&self, i: u32) -> Edge
+        requires { i < length self.now.numbers }
+        ensures { result ≡ local_at self.now i }
+    {
+        self.edges[i as usize]
+    }
+
+    /// The places of the edges at a replica, ascending.
+    pub fn row(&self, replica: u32) -> &[u32]
+        requires { replica < length self.now.vertices }
+        ensures value { result.now ≡ slice_index_or self.now.rows replica [] }
+        ensures within { All (λ i. i < length self.now.numbers) result.now }
+    {
+        self.rows.row(replica)
+    }
+
     /// The places of the edges at a vertex in a direction, ascending.
     pub fn around(&self, v: u32, dir: Dir) -> Around<'_>
         ensures { (g : Multigraph) → IsOver g self.now →
-            result.places.now ≡ places_around g self.now.numbers v dir }
+            result ≡ places_around g self.now.numbers v dir }
     {
-        match dir {
-            Dir::NoEdges => Around { places: &[] },
-            Dir::InEdges => Around {
-                places: self.into.at(v),
+        let edges = self.edges.as_slice();
+        match self.vertices.place(v) {
+            Some(replica) => Around {
+                places: self.rows.row(replica),
+                edges,
+                replica,
+                dir,
             },
-            Dir::OutEdges => Around {
-                places: self.out.at(v),
-            },
-            Dir::AllEdges => Around {
-                places: self.all.at(v),
+            None => Around {
+                places: &[],
+                edges,
+                replica: 0,
+                dir,
             },
         }
     }
