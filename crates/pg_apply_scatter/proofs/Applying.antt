@@ -22,7 +22,7 @@ use Rattle.pg_apply_scatter.specs.Applying.{message_of, applied_by, applied_mast
 use Rattle.pg_apply_scatter.specs.Halves.{entry_of, became_by, data_of, MastersBecome, PushesShare}
 
 -- maps that agree on what stands in the list
-map_agree_on : {X Y : Type 0} (f h : X → Y) (xs : List X) → AllByRecursion (λ x. f x ≡ h x) xs → map f xs ≡ map h xs
+pub map_agree_on : {X Y : Type 0} (f h : X → Y) (xs : List X) → AllByRecursion (λ x. f x ≡ h x) xs → map f xs ≡ map h xs
 map_agree_on f h [] same = refl
 map_agree_on f h (x ∷ xs) same = rw (same.0) (ap (λ ys. h x ∷ ys) (map_agree_on f h xs same.1))
 
@@ -47,7 +47,7 @@ module _ {A : Type 0} (F : ℕ → A) (q : ℕ → Bool) where
       chosen false passes rest = rest
 
   -- who passes has its own
-  entered : (xs : List ℕ) (v : ℕ) → list_any (λ u. u == v) xs ≡ true → entry_of (entries (filter q xs)) v ≡ cond (q v) (Some (F v)) None
+  pub entered : (xs : List ℕ) (v : ℕ) → list_any (λ u. u == v) xs ≡ true → entry_of (entries (filter q xs)) v ≡ cond (q v) (Some (F v)) None
   entered [] v among = absurd (cc)
   entered (x ∷ xs) v among = by_first (x == v) refl among (entered xs v)
     where

@@ -12,9 +12,9 @@ use Rattle.pg_law.specs.declared.values.Delta.TheVariants.{Nothing}
 use Rattle.pg_law.specs.declared.values.Applied.{Applied}
 use Rattle.pg_law.specs.declared.values.Scattered.{Scattered}
 use Rattle.pg_law.specs.Program.{Program}
-use Rattle.pg_law.specs.Laws.{IsLawful, IsDelta}
+use Rattle.pg_law.specs.Laws.{IsLawful, IsDelta, KeepsGathers}
 use Rattle.pg_law.specs.Monoid.{part}
-use Rattle.pg_law.specs.Configuration.{Configuration}
+use Rattle.pg_law.specs.Configuration.{Configuration, IsFit}
 use Rattle.pg_law.specs.Round.{from_source, from_target, fresh, outcomes, values_after, scatter_after, round}
 use Rattle.pg_law.proofs.Fitting.{fold_keeps, fresh_own}
 use Rattle.pg_law.proofs.Lists.{every}
@@ -104,22 +104,34 @@ module _ {Acc Carry : Type 0} (p : Program Acc Carry) where
         ∙ ap (λ d. posted p.sum c (from_other (side_at g v e) (delta_in (source e)) d)) (delta_told (target e))) cell (filter (λ e. is_at v (edge_at g e)) (edges_on cut.place worker))
         ∙ ap (fold (λ c e. posted p.sum c (from_other (side_at g v e) (delta_in (source e)) (delta_in (target e)))) cell) (own_edges g cut worker v is)
 
+module _ {Acc Carry : Type 0} (p : Program Acc Carry) (law : IsLawful p) (keeps : KeepsGathers p) (g : Multigraph) (ok : IsMultigraph g) (s : Configuration) (fit : IsFit p g s) where
+  each_own : (v : ℕ) → AllByRecursion (λ e. IsDelta p.IsAcc (delta_to p law keeps g ok s fit v e)) (edges_at g v)
+  each_own v = every (λ e. e < length g.edges) (λ e. IsDelta p.IsAcc (delta_to p law keeps g ok s fit v e)) (λ e below. delta_own p law keeps g ok s fit (side_at g v e) e below) (edges_at g v) (edges_at_below g v)
+
+  pub joined_to_own : (v : ℕ) → IsDelta p.IsAcc (joined_over p (delta_to p law keeps g ok s fit v) (edges_at g v))
+  joined_to_own v = fold_keeps (IsDelta p.IsAcc) (λ e. IsDelta p.IsAcc (delta_to p law keeps g ok s fit v e)) (λ x e. joined p.sum x (delta_to p law keeps g ok s fit v e)) (λ x e ox oe. joined_own p law x (delta_to p law keeps g ok s fit v e) ox oe) Nothing (edges_at g v) tt (each_own v)
+
+  -- what all workers send to a vertex is posted as what all its edges tell it
+  pub cell_posted : (cut : Division) (carries : List (Option Carry)) (stores : ℕ → Store) (mirrors : ℕ → Mirrors) (cell : CacheCell Acc) → IsCutOf g cut → AreCarriesOf carries (outcomes p g s (λ v. true))
+      → ((w : ℕ) → w < cut.workers → IsShareOf g cut w (applied_state p g s (outcomes p g s (λ v. true))) (stores w) (mirrors w)) → IsDelta p.IsAcc cell.pending → (v : ℕ)
+      → cell_from p v cell (sent_by_all p g cut carries stores mirrors) ≡ posted p.sum cell (joined_over p (delta_to p law keeps g ok s fit v) (edges_at g v))
+  cell_posted cut carries stores mirrors cell is carried shares own v =
+      let became = outcomes p g s (λ v. true) in
+      let delta = delta_to p law keeps g ok s fit v in
+      let Same : ℕ → Type 0 = λ w. (c : CacheCell Acc) → deltas_of p v c (sent_from p g (mirrors w) carries (stores w)) ≡ fold (λ c e. posted p.sum c (delta e)) c (part (slice_index cut.place) w (edges_at g v)) in
+      fold-map (deltas_of p v) (λ w. sent_from p g (mirrors w) carries (stores w)) cell (range_with_len 0 cut.workers)
+      ∙ folds_agree_on (λ c w. deltas_of p v c (sent_from p g (mirrors w) carries (stores w))) (λ c w. fold (λ c e. posted p.sum c (delta e)) c (part (slice_index cut.place) w (edges_at g v))) (range_with_len 0 cut.workers)
+      (recursion_from_All Same (range_with_len 0 cut.workers) (λ i d inside. let w = get_or (range_with_len 0 cut.workers) i d in let below = numbers_below cut.workers i d inside in
+      deltas_here p g cut s became carries w (stores w) (mirrors w) ok is below carried (shares w below) v)) cell
+      ∙ all_posted p delta law (slice_index cut.place) cut.workers cell (edges_at g v) own (edges_placed p law g cut is v) (each_own v)
+
 module _ {Acc Carry : Type 0} (p : Program Acc Carry) (law : IsLawful p) (keeps_truth : PostingKeepsTruth p) where
   pub cells_follow : CellsFollow p
   unfolding round
   cells_follow g cut s carries stores mirrors cells ok is fit speaks carried shares kept v h =
       let keeps = law.deltas speaks in
-      let became = outcomes p g s (λ v. true) in
-      let delta = delta_to p law keeps g ok s fit v in
-      let each : AllByRecursion (λ e. IsDelta p.IsAcc (delta e)) (edges_at g v) = every (λ e. e < length g.edges) (λ e. IsDelta p.IsAcc (delta e)) (λ e below. delta_own p law keeps g ok s fit (side_at g v e) e below) (edges_at g v) (edges_at_below g v) in
-      let Same : ℕ → Type 0 = λ w. (c : CacheCell Acc) → deltas_of p v c (sent_from p g (mirrors w) carries (stores w)) ≡ fold (λ c e. posted p.sum c (delta e)) c (part (slice_index cut.place) w (edges_at g v)) in
-      let whole : cell_from p v (cell_in cells v) (sent_by_all p g cut carries stores mirrors) ≡ posted p.sum (cell_in cells v) (joined_over p delta (edges_at g v)) =
-      fold-map (deltas_of p v) (λ w. sent_from p g (mirrors w) carries (stores w)) (cell_in cells v) (range_with_len 0 cut.workers)
-      ∙ folds_agree_on (λ c w. deltas_of p v c (sent_from p g (mirrors w) carries (stores w))) (λ c w. fold (λ c e. posted p.sum c (delta e)) c (part (slice_index cut.place) w (edges_at g v))) (range_with_len 0 cut.workers)
-      (recursion_from_All Same (range_with_len 0 cut.workers) (λ i d inside. let w = get_or (range_with_len 0 cut.workers) i d in let below = numbers_below cut.workers i d inside in
-      deltas_here p g cut s became carries w (stores w) (mirrors w) ok is below carried (shares w below) v)) (cell_in cells v)
-      ∙ all_posted p delta law (slice_index cut.place) cut.workers (cell_in cells v) (edges_at g v) (kept.own v h).pending (edges_placed p law g cut is v) each in
-      let joined_is : IsDelta p.IsAcc (joined_over p delta (edges_at g v)) = fold_keeps (IsDelta p.IsAcc) (λ e. IsDelta p.IsAcc (delta e)) (λ x e. joined p.sum x (delta e)) (λ x e ox oe. joined_own p law x (delta e) ox oe) Nothing (edges_at g v) tt each in
-      let True : CacheCell Acc → Type 0 = λ c. IsTrueOf p.sum c (fresh p g (scatter_after p g s became) v) in
-      subst True (sym whole) (keeps_truth (cell_in cells v) (joined_over p delta (edges_at g v)) (fresh p g s v) (fresh p g (scatter_after p g s became) v)
-      (kept.own v h) joined_is (fresh_own p g law ok s v fit) (kept.true_of v h) (fresh_leads p law keeps g ok s fit v))
+      let delta = joined_over p (delta_to p law keeps g ok s fit v) (edges_at g v) in
+      let after = scatter_after p g s (outcomes p g s (λ v. true)) in
+      let True : CacheCell Acc → Type 0 = λ c. IsTrueOf p.sum c (fresh p g after v) in
+      subst True (sym (cell_posted p law keeps g ok s fit cut carries stores mirrors (cell_in cells v) is carried shares (kept.own v h).pending v))
+      (keeps_truth (cell_in cells v) delta (fresh p g s v) (fresh p g after v) (kept.own v h) (joined_to_own p law keeps g ok s fit v) (fresh_own p g law ok s v fit) (kept.true_of v h) (fresh_leads p law keeps g ok s fit v))

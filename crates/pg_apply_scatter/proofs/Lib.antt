@@ -1,4 +1,5 @@
 pub mod Reading
+pub mod Listing
 pub mod Visiting
 pub mod Skipping
 pub mod Receiving

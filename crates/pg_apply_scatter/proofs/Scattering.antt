@@ -1,6 +1,6 @@
 -- The scatters of all workers are the scatter of all edges.
 use Rattle.std.proofs.Common.{◌≡◌, ℕ, ◌<◌, Bool, true, false, cond, ◌==◌, Option, Some, None, List, [], ◌∷◌, ◌++◌, length, get_or, map, refl, sym, ◌∙◌, ap, arith}
-use Rattle.std.specs.Prelude.{filter, fold, slice_index}
+use Rattle.std.specs.Prelude.{All, filter, fold, slice_index}
 use Rattle.std.specs.List.{range_with_len, flat_map, AllByRecursion}
 use Rattle.std.proofs.lemmas.List.{get_or-map, ext_get_or, length-map}
 use Rattle.std.proofs.lemmas.List.Elements.{recursion_from_All}
@@ -9,7 +9,7 @@ use Rattle.std.proofs.lemmas.List.Folds.{fold-map, flat_map-map}
 use Rattle.pg_graph.specs.declared.edge.Side.{Side}
 use Rattle.pg_graph.specs.declared.edge.Side.TheVariants.{Source, Target}
 use Rattle.pg_graph.specs.Multigraph.{Multigraph, IsMultigraph, edge_at, edges_at, end_at, side_at, is_at, opposite, edge_numbers}
-use Rattle.pg_graph.proofs.Numbers.{numbers_below}
+use Rattle.pg_graph.proofs.Numbers.{numbers_below, filter_numbers_each}
 use Rattle.pg_graph.proofs.Stored.{edges_at_below}
 use Rattle.pg_law.specs.declared.values.Datum.{Datum}
 use Rattle.pg_law.specs.declared.values.Applied.{Applied}
@@ -25,7 +25,6 @@ use Rattle.pg_law.proofs.Lists.{every}
 use Rattle.pg_law.proofs.Parts.{signals_in_turn}
 use Rattle.pg_cut.specs.Cut.{Division, IsCutOf, edges_on}
 use Rattle.pg_edge_store.specs.Store.{Store}
-use Rattle.pg_edge_store.proofs.Ends.{numbers_inside}
 use Rattle.pg_mirrors.specs.Mirrors.{Mirrors}
 use Rattle.pg_gather.specs.Shares.{IsShareOf}
 use Rattle.pg_gather.proofs.Sharing.{word_is, datum_is, all_readable}
@@ -62,6 +61,10 @@ filter_swap {A = A} p q (x ∷ xs) = chosen (p x) (q x) refl refl (filter_swap p
     chosen true false ep eq rest = rw (eq, ep, eq) rest
     chosen false true ep eq rest = rw (eq, ep) rest
     chosen false false ep eq rest = rw (eq, ep) rest
+
+-- a worker's edges are numbers of edges
+numbers_inside : (place : List ℕ) (worker : ℕ) → All (λ e. e < length place) (edges_on place worker)
+numbers_inside place worker = λ i d h. (filter_numbers_each (λ e. get_or place e 0 == worker) (length place) i d h).0
 
 -- a worker's edges at a vertex
 pub own_edges : (g : Multigraph) (cut : Division) (worker v : ℕ) → IsCutOf g cut → filter (λ e. is_at v (edge_at g e)) (edges_on cut.place worker) ≡ part (slice_index cut.place) worker (edges_at g v)
@@ -132,7 +135,8 @@ module _ {Acc Carry : Type 0} (p : Program Acc Carry) (g : Multigraph) (cut : Di
   share_after = record {
     edges = record {
       numbers = share.edges.numbers;
-      over = record { into = share.edges.over.into; out = share.edges.over.out; all = share.edges.over.all };
+      vertices = share.edges.vertices;
+      over = record { count = share.edges.over.count; ascending = share.edges.over.ascending; within = share.edges.over.within; ends = share.edges.over.ends; rows_are = share.edges.over.rows_are };
     };
     words = words_same;
     replicas = share.replicas;

@@ -1,5 +1,5 @@
 -- What the vertices receive of all that is sent.
-use Rattle.std.specs.Prelude.{◌≡◌, ℕ, ◌<◌, ◌==◌, cond, Option, List, length, slice_index_or, fold}
+use Rattle.std.specs.Prelude.{◌≡◌, ℕ, ◌<◌, ◌==◌, cond, Option, List, length, slice_index_or, map, fold}
 use Rattle.pg_law.specs.Program.{Program}
 use Rattle.pg_law.specs.Laws.{IsOptional}
 use Rattle.pg_law.specs.Configuration.{message_in}
@@ -7,6 +7,7 @@ use Rattle.pg_law.specs.Round.{join}
 use Rattle.pg_delta.specs.declared.cell.CacheCell.{CacheCell}
 use Rattle.pg_delta.specs.Cell.{IsCell, cleared, posted}
 use Rattle.pg_apply_scatter.specs.declared.sent.Sent.{Sent}
+use Rattle.pg_apply_scatter.specs.Sending.{signals_in}
 
 abbrev pub cell_in : {A : Type 0} → List (CacheCell A) → ℕ → CacheCell A
 cell_in cells v = slice_index_or cells v cleared
@@ -31,6 +32,11 @@ module _ {Acc Carry : Type 0} (p : Program Acc Carry) where
 
   abbrev pub cell_from : ℕ → CacheCell Acc → List (List (Sent Acc)) → CacheCell Acc
   cell_from v cell lists = fold (deltas_of v) cell lists
+
+  -- the messages that come of all that is sent come of its signals alone
+  abbrev pub SignalsAreEnough : Type 0
+  SignalsAreEnough = (v : ℕ) (message : Option ℕ) (lists : List (List (Sent Acc)))
+      → message_from v message (map signals_in lists) ≡ message_from v message lists
 
   -- each message is combined with the signals for its vertex
   abbrev pub AreCombined : List (List (Sent Acc)) → List (Option ℕ) → List (Option ℕ) → Type 0

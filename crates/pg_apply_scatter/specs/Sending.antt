@@ -1,12 +1,14 @@
 -- What one worker scatters: over the edges of its own store, through its own replicas.
-use Rattle.std.specs.Prelude.{ℕ, ◌<◌, cond, Option, Some, None, List, [], ◌∷◌, ◌++◌, length, slice_index, map}
+use Rattle.std.specs.Prelude.{◌≡◌, ℕ, ◌<◌, Bool, cond, is_some, filter, Option, Some, None, List, [], ◌∷◌, ◌++◌, length, slice_index, map}
 use Rattle.std.specs.List.{range_with_len, flat_map}
 use Rattle.std.specs.List.Sorted.{IsStrictlyIncreasing}
+use Rattle.pg_graph.specs.declared.edge.Edge.{Edge}
 use Rattle.pg_graph.specs.declared.edge.Side.{Side}
 use Rattle.pg_graph.specs.declared.edge.Side.TheVariants.{Source, Target}
-use Rattle.pg_graph.specs.Multigraph.{Multigraph, end_at, opposite, takes, edge_info}
+use Rattle.pg_graph.specs.Multigraph.{Multigraph, end_of, end_at, opposite, takes, edge_info}
 use Rattle.pg_law.specs.declared.values.Near.{Near}
 use Rattle.pg_law.specs.declared.values.Scattered.{Scattered}
+use Rattle.pg_law.specs.declared.values.Delta.TheVariants.{Nothing}
 use Rattle.pg_law.specs.Program.{Program}
 use Rattle.pg_law.specs.Laws.{IsOptional, IsDelta}
 use Rattle.pg_law.specs.Carries.{carry_at}
@@ -31,6 +33,11 @@ pub record AreReplicas {Acc Carry : Type 0} (p : Program Acc Carry) (m : Mirrors
   pub ascending : IsStrictlyIncreasing m.vertices
   pub values : (i : ℕ) → i < length m.vertices → p.IsDatum (datum_at m.values i)
 
+-- an edge whose ends are the replicas of the ends of an edge of the graph
+pub record IsBetweenReplicas (g : Multigraph) (m : Mirrors) (e : ℕ) (local : Edge) : Type 0 where
+  pub within : (side : Side) → end_of side local < length m.vertices
+  pub ends : (side : Side) → slice_index m.vertices (end_of side local) ≡ end_at g side e
+
 -- what the centre scatters over an edge, where it has a carry and the edge is one of its own
 abbrev pub scatter_near : {Acc Carry : Type 0} → Program Acc Carry → Near → Option Carry → Option (Scattered Acc)
 scatter_near p near None = None
@@ -51,6 +58,17 @@ pub record IsSentIn {Acc Carry : Type 0} (p : Program Acc Carry) (count : ℕ) (
   pub to : sent.to < count
   pub signal : IsOptional p.IsMessage sent.signal
   pub delta : IsDelta p.IsAcc sent.delta
+
+-- what is sent with a signal, and no delta
+abbrev pub without_delta : {Acc : Type 0} → Sent Acc → Sent Acc
+without_delta sent = record { to = sent.to; signal = sent.signal; delta = Nothing }
+
+abbrev pub signals_in : {Acc : Type 0} → List (Sent Acc) → List (Sent Acc)
+signals_in list = map without_delta (filter (λ sent. is_some sent.signal) list)
+
+-- what is listed of all that is sent: the whole, or the signals alone
+abbrev pub listing : {Acc : Type 0} → Bool → List (Sent Acc) → List (Sent Acc)
+listing with_deltas list = cond with_deltas list (signals_in list)
 
 module _ {Acc Carry : Type 0} (p : Program Acc Carry) (g : Multigraph) (m : Mirrors) (carries : List (Option Carry)) where
   -- what an end of an edge with this word scatters, by its carry

@@ -1,6 +1,7 @@
 //! Laws of a round in parts.
 ghost use Rattle.pg_apply_scatter.specs.Halves.{MastersBecome, PushesShare, WorkersScatter};
 ghost use Rattle.pg_apply_scatter.specs.Halves.{PartsAreARound};
+ghost use Rattle.pg_apply_scatter.specs.Delivering.{SignalsAreEnough};
 ghost use Rattle.pg_apply_scatter.specs.Caches.{CellsFollow};
 
 use pg_delta::cells_stay_true;
@@ -23,6 +24,11 @@ pub fn workers_scatter<P: VertexProgram>(program: &P)
 {
     laws_of(program);
 }
+
+/// The messages that come of what the workers send come of its signals alone.
+pub fn signals_are_enough<P: VertexProgram>(program: &P)
+    ensures { SignalsAreEnough (P.meaning program.now) }
+{}
 
 /// From the shares of a state: apply at the masters, push, scatter by all workers and deliver give
 /// the shares and the messages of the state after a round.

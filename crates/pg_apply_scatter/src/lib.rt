@@ -14,7 +14,10 @@ mod visit;
 
 pub use apply::apply_masters;
 pub use delivery::deliver;
-pub use laws::{cells_follow, masters_become, parts_are_a_round, pushes_share, workers_scatter};
+pub use laws::{
+    cells_follow, masters_become, parts_are_a_round, pushes_share, signals_are_enough,
+    workers_scatter,
+};
 pub use push::push_mirrors;
-pub use scatter::scatter_worker;
+pub use scatter::{scatter_signals, scatter_worker};
 pub use sent::Sent;

@@ -1,15 +1,18 @@
 //! What one worker scatters.
-ghost use Rattle.std.specs.Prelude.{◌≡◌, length, All, IfOk, IfSome, OnOk};
+ghost use Rattle.std.specs.Prelude.{◌≡◌, ◌++◌, length, All, IfOk, IfSome, OnOk};
+ghost use Rattle.std.specs.Bool.{OnTrue};
+ghost use Rattle.pg_graph.specs.Multigraph.{Multigraph};
 ghost use Rattle.pg_law.specs.Carries.{AreCarries};
-ghost use Rattle.pg_edge_store.specs.Store.{IsOver};
+ghost use Rattle.pg_edge_store.specs.Store.{IsOver, places_around};
 ghost use Rattle.pg_gather.specs.Partials.{IsReadable};
 ghost use Rattle.pg_apply_scatter.specs.Places.{ArePlaces};
 ghost use Rattle.pg_apply_scatter.specs.Sending.{IsSentIn, words_after, sent_from};
+ghost use Rattle.pg_apply_scatter.specs.Sending.{listing, signals_in};
 
 use crate::sent::Sent;
 use crate::visit::visit_place;
 use pg_edge_store::EdgeStore;
-use pg_graph::Graph;
+use pg_graph::{Dir, Graph};
 use pg_law::{VertexProgram, laws_of};
 use pg_mirrors::MirrorTable;
 use std::alloc::{AllocError, Global};
@@ -22,22 +25,52 @@ fn scatter_all<P: VertexProgram>(
     store: &mut EdgeStore,
     mirrors: &MirrorTable,
     carries: &[Option<P::Carry>],
+    with_deltas: bool,
 ) -> Result<Vec<Sent<P::Acc>>, AllocError>
     requires readable { IsReadable (P.meaning program.now) graph.now store.old mirrors.now }
     requires carries { AreCarries (P.meaning program.now) graph.now carries.now }
     ensures words { let p = P.meaning program.now in OnOk result (store.new ≡ record store.old {
       words = words_after p graph.now mirrors.now carries.now store.old;
     }) }
-    ensures sent { let p = P.meaning program.now in IfOk result (λ sent.
-        sent.items ≡ sent_from p graph.now mirrors.now carries.now store.old) }
+    ensures sent { let p = P.meaning program.now in IfOk result (λ sent. sent.items ≡
+        listing with_deltas (sent_from p graph.now mirrors.now carries.now store.old)) }
 {
     let mut sent = Vec::new(alloc);
     for place in 0..store.len() {
         visit_place(
-            alloc, program, graph, store, mirrors, carries, place, &mut sent,
+            alloc,
+            program,
+            graph,
+            store,
+            mirrors,
+            carries,
+            place,
+            &mut sent,
+            with_deltas,
         )?;
     }
     Ok(sent)
+}
+
+/// Appends the places around a vertex, as long as there are fewer than a limit. False if not all of
+/// them were appended.
+fn append_around(
+    store: &EdgeStore,
+    v: u32,
+    dir: Dir,
+    limit: usize,
+    places: &mut Vec<u32>,
+) -> Result<bool, AllocError>
+    ensures { (g : Multigraph) → IsOver g store.now → IfOk result (λ all. OnTrue all
+        (places.new.items ≡ places.old.items ++ places_around g store.now.numbers v dir)) }
+{
+    for place in store.around(v, dir) {
+        if places.len() >= limit {
+            return Ok(false);
+        }
+        places.push(place)?;
+    }
+    Ok(true)
 }
 
 /// The places of the edges over which the vertices with a carry scatter, vertex by vertex. None if
@@ -62,11 +95,9 @@ fn places_of<P: VertexProgram>(
         if carries[v as usize].is_none() {
             continue;
         }
-        let around = store.around(v, dir).places;
-        if around.len() > limit.saturating_sub(places.len()) {
+        if !append_around(store, v, dir, limit, &mut places)? {
             return Ok(None);
         }
-        places.extend_from_slice(around)?;
     }
     Ok(Some(places))
 }
@@ -81,6 +112,7 @@ fn scatter_places<P: VertexProgram>(
     mirrors: &MirrorTable,
     carries: &[Option<P::Carry>],
     mut places: Vec<u32>,
+    with_deltas: bool,
 ) -> Result<Vec<Sent<P::Acc>>, AllocError>
     requires readable { IsReadable (P.meaning program.now) graph.now store.old mirrors.now }
     requires carries { AreCarries (P.meaning program.now) graph.now carries.now }
@@ -90,8 +122,8 @@ fn scatter_places<P: VertexProgram>(
     ensures words { let p = P.meaning program.now in OnOk result (store.new ≡ record store.old {
       words = words_after p graph.now mirrors.now carries.now store.old;
     }) }
-    ensures sent { let p = P.meaning program.now in IfOk result (λ sent.
-        sent.items ≡ sent_from p graph.now mirrors.now carries.now store.old) }
+    ensures sent { let p = P.meaning program.now in IfOk result (λ sent. sent.items ≡
+        listing with_deltas (sent_from p graph.now mirrors.now carries.now store.old)) }
 {
     let _ = graph.vertices();
     let _ = store.len();
@@ -104,11 +136,57 @@ fn scatter_places<P: VertexProgram>(
             continue;
         }
         visit_place(
-            alloc, program, graph, store, mirrors, carries, *place, &mut sent,
+            alloc,
+            program,
+            graph,
+            store,
+            mirrors,
+            carries,
+            *place,
+            &mut sent,
+            with_deltas,
         )?;
         next = *place + 1;
     }
     Ok(sent)
+}
+
+/// Visits the edges of a worker, at the vertices with a carry alone where these are few.
+fn visit_edges<P: VertexProgram>(
+    alloc: Global,
+    program: &P,
+    graph: &Graph,
+    store: &mut EdgeStore,
+    mirrors: &MirrorTable,
+    carries: &[Option<P::Carry>],
+    with_deltas: bool,
+) -> Result<Vec<Sent<P::Acc>>, AllocError>
+    requires readable { IsReadable (P.meaning program.now) graph.now store.old mirrors.now }
+    requires carries { AreCarries (P.meaning program.now) graph.now carries.now }
+    ensures words { let p = P.meaning program.now in OnOk result (store.new ≡ record store.old {
+      words = words_after p graph.now mirrors.now carries.now store.old;
+    }) }
+    ensures sent { let p = P.meaning program.now in IfOk result (λ sent. sent.items ≡
+        listing with_deltas (sent_from p graph.now mirrors.now carries.now store.old)) }
+    ensures own { IfOk result (λ sent.
+        All (IsSentIn (P.meaning program.now) (length graph.now.ids)) sent.items) }
+{
+    laws_of(program);
+    let _ = graph.vertices();
+    let limit = store.len() as usize / 4;
+    match places_of(alloc, program, graph, store, carries, limit)? {
+        Some(places) => scatter_places(
+            alloc,
+            program,
+            graph,
+            store,
+            mirrors,
+            carries,
+            places,
+            with_deltas,
+        ),
+        None => scatter_all(alloc, program, graph, store, mirrors, carries, with_deltas),
+    }
 }
 
 /// Visits the edges of a worker, ascending: each for its source first, and then for its target,
@@ -134,11 +212,33 @@ pub fn scatter_worker<P: VertexProgram>(
     ensures own { IfOk result (λ sent.
         All (IsSentIn (P.meaning program.now) (length graph.now.ids)) sent.items) }
 {
-    laws_of(program);
-    let _ = graph.vertices();
-    let limit = store.len() as usize / 4;
-    match places_of(alloc, program, graph, store, carries, limit)? {
-        Some(places) => scatter_places(alloc, program, graph, store, mirrors, carries, places),
-        None => scatter_all(alloc, program, graph, store, mirrors, carries),
-    }
+    visit_edges(alloc, program, graph, store, mirrors, carries, true)
+}
+
+/// Visits the edges of a worker, ascending: each for its source first, and then for its target,
+/// where that vertex has a carry and the edge is a scatter edge of it.
+///
+/// The answer is the signals that the visits send, in this order, without the deltas: as much as an
+/// engine needs that keeps no gathers (`signals_are_enough`). The store has the words after the
+/// visits. After `Err`, which is want of memory, some words may be those before and some those
+/// after.
+pub fn scatter_signals<P: VertexProgram>(
+    alloc: Global,
+    program: &P,
+    graph: &Graph,
+    store: &mut EdgeStore,
+    mirrors: &MirrorTable,
+    carries: &[Option<P::Carry>],
+) -> Result<Vec<Sent<P::Acc>>, AllocError>
+    requires readable { IsReadable (P.meaning program.now) graph.now store.old mirrors.now }
+    requires carries { AreCarries (P.meaning program.now) graph.now carries.now }
+    ensures words { let p = P.meaning program.now in OnOk result (store.new ≡ record store.old {
+      words = words_after p graph.now mirrors.now carries.now store.old;
+    }) }
+    ensures sent { let p = P.meaning program.now in IfOk result (λ sent.
+        sent.items ≡ signals_in (sent_from p graph.now mirrors.now carries.now store.old)) }
+    ensures own { IfOk result (λ sent.
+        All (IsSentIn (P.meaning program.now) (length graph.now.ids)) sent.items) }
+{
+    visit_edges(alloc, program, graph, store, mirrors, carries, false)
 }

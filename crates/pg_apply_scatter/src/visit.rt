@@ -3,14 +3,15 @@ ghost use Rattle.std.specs.Prelude.{◌≡◌, ◌<◌, ◌++◌, length, slice_
 ghost use Rattle.pg_law.specs.Carries.{AreCarries, IsCarried};
 ghost use Rattle.pg_law.specs.Round.{IsSent, word_after};
 ghost use Rattle.pg_gather.specs.Partials.{IsReadable, IsReadableAt};
-ghost use Rattle.pg_apply_scatter.specs.Sending.{AreReplicas, near_with as near_from_here};
-ghost use Rattle.pg_apply_scatter.specs.Sending.{scatter_near, sent_to, final_at, sent_at};
+ghost use Rattle.pg_apply_scatter.specs.Sending.{AreReplicas, IsBetweenReplicas, scatter_near};
+ghost use Rattle.pg_apply_scatter.specs.Sending.{near_with as near_from_here};
+ghost use Rattle.pg_apply_scatter.specs.Sending.{sent_to, final_at, sent_at, listing};
 
 use crate::near::near_with;
 use crate::sent::Sent;
 use pg_edge_store::EdgeStore;
-use pg_graph::{Graph, Side};
-use pg_law::{Scattered, VertexProgram, laws_of};
+use pg_graph::{Edge, Graph, Side};
+use pg_law::{Delta, Scattered, VertexProgram, laws_of};
 use pg_mirrors::MirrorTable;
 use std::alloc::{AllocError, Global};
 
@@ -25,6 +26,8 @@ fn word_of<A>(old: u64, scattered: &Option<Scattered<A>>) -> u64
 }
 
 /// What an end of an edge with this word scatters, where the vertex there has this carry.
+///
+/// `local` is the edge between replicas.
 fn scatter_from<P: VertexProgram>(
     alloc: Global,
     program: &P,
@@ -32,11 +35,13 @@ fn scatter_from<P: VertexProgram>(
     mirrors: &MirrorTable,
     side: Side,
     e: u32,
+    local: Edge,
     word: u64,
     carry: Option<P::Carry>,
 ) -> Result<Option<Scattered<P::Acc>>, AllocError>
     requires replicas { AreReplicas (P.meaning program.now) mirrors.now }
     requires edge { IsReadableAt graph.now mirrors.now e }
+    requires local { IsBetweenReplicas graph.now mirrors.now e local }
     requires word { (P.meaning program.now).IsWord word }
     requires carry { IsCarried (P.meaning program.now) carry }
     ensures value { IfOk result (λ scattered. scattered ≡ scatter_near (P.meaning program.now)
@@ -48,7 +53,7 @@ fn scatter_from<P: VertexProgram>(
         None => Ok(None),
         Some(carry) => {
             if program.scatter_edges().takes(side) {
-                let near = near_with(program, graph, mirrors, side, e, word);
+                let near = near_with(program, graph, mirrors, side, e, local, word);
                 let scattered = program.scatter(alloc, near, carry)?;
                 Ok(Some(scattered))
             } else {
@@ -58,28 +63,36 @@ fn scatter_from<P: VertexProgram>(
     }
 }
 
-/// Appends what a visit sends to the vertex at the other end.
+/// Appends what a visit sends to the vertex at the other end, or its signal alone.
 fn push_sent<A: Drop>(
     sent: &mut Vec<Sent<A>>,
     to: u32,
     scattered: Option<Scattered<A>>,
+    with_deltas: bool,
 ) -> Result<(), AllocError>
-    ensures { OnOk result (sent.new.items ≡ sent.old.items ++ sent_to to scattered) }
+    ensures { OnOk result (sent.new.items ≡
+        sent.old.items ++ listing with_deltas (sent_to to scattered)) }
 {
-    match scattered {
-        None => Ok(()),
-        Some(scattered) => {
-            sent.push(Sent {
-                to,
-                signal: scattered.signal,
-                delta: scattered.delta,
-            })?;
-            Ok(())
-        }
+    let Some(scattered) = scattered else {
+        return Ok(());
+    };
+    let signal = scattered.signal;
+    let delta = scattered.delta;
+    if with_deltas {
+        sent.push(Sent { to, signal, delta })?;
+    } else if signal.is_some() {
+        sent.push(Sent {
+            to,
+            signal,
+            delta: Delta::Nothing,
+        })?;
     }
+    Ok(())
 }
 
 /// Visits the edge at a place of the store, for its source first, and then for its target.
+///
+/// What the visits send is appended with its deltas, or else the signals alone.
 pub fn visit_place<P: VertexProgram>(
     alloc: Global,
     program: &P,
@@ -89,6 +102,7 @@ pub fn visit_place<P: VertexProgram>(
     carries: &[Option<P::Carry>],
     place: u32,
     sent: &mut Vec<Sent<P::Acc>>,
+    with_deltas: bool,
 ) -> Result<(), AllocError>
     requires readable { IsReadable (P.meaning program.now) graph.now store.old mirrors.now }
     requires carries { AreCarries (P.meaning program.now) graph.now carries.now }
@@ -98,12 +112,14 @@ pub fn visit_place<P: VertexProgram>(
           (final_at p graph.now mirrors.now carries.now store.old place);
     }) }
     ensures sent { let p = P.meaning program.now in OnOk result (sent.new.items ≡
-        sent.old.items ++ sent_at p graph.now mirrors.now carries.now store.old place) }
+        sent.old.items ++
+        listing with_deltas (sent_at p graph.now mirrors.now carries.now store.old place)) }
     ensures readable { OnOk result
         (IsReadable (P.meaning program.now) graph.now store.new mirrors.now) }
 {
     laws_of(program);
     let e = store.edge(place);
+    let local = store.local(place);
     let edge = graph.edges()[e as usize];
     let word = store.word(place);
     let source = scatter_from(
@@ -113,6 +129,7 @@ pub fn visit_place<P: VertexProgram>(
         mirrors,
         Side::Source,
         e,
+        local,
         word,
         carries[edge.src as usize],
     )?;
@@ -124,11 +141,12 @@ pub fn visit_place<P: VertexProgram>(
         mirrors,
         Side::Target,
         e,
+        local,
         between,
         carries[edge.dst as usize],
     )?;
     store.set_word(place, word_of(between, &target));
-    push_sent(sent, edge.dst, source)?;
-    push_sent(sent, edge.src, target)?;
+    push_sent(sent, edge.dst, source, with_deltas)?;
+    push_sent(sent, edge.src, target, with_deltas)?;
     Ok(())
 }

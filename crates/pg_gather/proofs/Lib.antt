@@ -1,4 +1,5 @@
 pub mod Reading
+pub mod Rows
 pub mod Merging
 pub mod Sharing
 pub mod Parting

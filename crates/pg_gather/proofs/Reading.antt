@@ -3,8 +3,8 @@ use Rattle.std.proofs.Common.{◌≡◌, ℕ, suc, ◌<◌, ◌+◌, Bool, true,
 use Rattle.std.specs.Prelude.{Contains, All, filter}
 use Rattle.std.specs.List.{list_any, position_or_len}
 use Rattle.std.specs.List.Sorted.{IsStrictlyIncreasing}
-use Rattle.std.proofs.lemmas.Bool.{eq-eqb, ne_eqb, eqb-true, false_from_ne_true}
-use Rattle.std.proofs.lemmas.List.{map-append, get_or_default}
+use Rattle.std.proofs.lemmas.Bool.{eq-eqb, ne_eqb, eqb-true}
+use Rattle.std.proofs.lemmas.List.{map-append}
 use Rattle.std.proofs.lemmas.List.Elements.{filter_more}
 use Rattle.std.proofs.lemmas.List.Folds.{list_any_at}
 use Rattle.std.proofs.lemmas.List.Sums.{position_or_len_is}
@@ -15,11 +15,11 @@ use Rattle.pg_graph.specs.declared.edge.Dir.{Dir}
 use Rattle.pg_graph.specs.Multigraph.{Multigraph, edge_at, end_of, end_at, side_of, side_at, is_at, takes, opposite, edge_info}
 use Rattle.pg_graph.proofs.Numbers.{filter_numbers_each}
 use Rattle.pg_cut.proofs.Searching.{below_at}
-use Rattle.pg_cut.proofs.Passing.{none_below}
 use Rattle.pg_law.specs.declared.values.Datum.{Datum}
 use Rattle.pg_law.specs.declared.values.Near.{Near}
 use Rattle.pg_law.specs.Program.{Program}
-use Rattle.pg_edge_store.specs.Store.{Store, is_around, places_around}
+use Rattle.pg_edge_store.specs.Store.{Store, local_at, is_around, places_around}
+use Rattle.pg_edge_store.proofs.Replicas.{none_around}
 use Rattle.pg_mirrors.specs.Mirrors.{Mirrors, datum_at}
 use Rattle.pg_gather.specs.Partials.{replica_of, near_at, IsReadable}
 
@@ -56,10 +56,6 @@ both : (a b : Bool) → (a && b) ≡ true → a ≡ true
 both true b h = refl
 both false b h = h
 
-neither : (a b : Bool) → a ≡ false → (a && b) ≡ false
-neither true b h = absurd (cc)
-neither false b h = refl
-
 -- each place around a vertex is one of the store, and its edge is at the vertex
 pub around_each : (g : Multigraph) (numbers : List ℕ) (v : ℕ) (dir : Dir) → All (λ i. (i < length numbers) × (end_at g (side_at g v (get_or numbers i 0)) (get_or numbers i 0) ≡ v)) (places_around g numbers v dir)
 around_each g numbers v dir i d h =
@@ -70,13 +66,9 @@ around_each g numbers v dir i d h =
 
 -- a vertex without a replica has no edges here
 pub nothing_here : {Acc Carry : Type 0} (p : Program Acc Carry) (g : Multigraph) (s : Store) (m : Mirrors) (v : ℕ) (dir : Dir) → IsReadable p g s m → (Contains m.vertices v → ⊥) → places_around g s.numbers v dir ≡ []
-nothing_here p g s m v dir readable none = none_below (λ i. is_around v dir (edge_at g (get_or s.numbers i 0))) (length s.numbers) away
-  where
-    away : (i : ℕ) → i < length s.numbers → is_around v dir (edge_at g (get_or s.numbers i 0)) ≡ false
-    away i h = let e = get_or s.numbers i 0 in
-        let edge = edge_at g e in
-        neither (is_at v edge) (takes dir (side_of v edge)) (false_from_ne_true (is_at v edge)
-        (λ at. none (let Has : ℕ → Type 0 = λ u. Contains m.vertices u in subst Has (end_is v edge at) ((readable.edges i 0 h).ends (side_at g v e)))))
+nothing_here p g s m v dir readable none =
+    let None : List ℕ → Type 0 = λ vertices. Contains vertices v → ⊥ in
+    none_around g s readable.over v (subst None (sym readable.vertices) none) dir
 
 -- one more vertex that is wanted
 pub parts_more : {B : Type 0} (f : ℕ → B) (q : ℕ → Bool) (xs : List ℕ) (i : ℕ) → i < length xs → map f (filter q (take (i + 1) xs)) ≡ map f (filter q (take i xs)) ++ cond (q (get_or xs i 0)) (f (get_or xs i 0) ∷ []) []
@@ -87,13 +79,24 @@ parts_more f q xs i h = let x = get_or xs i 0 in
     last true = refl
     last false = refl
 
--- the datum of a vertex with a replica is the program's
-pub replica_own : {Acc Carry : Type 0} (p : Program Acc Carry) (g : Multigraph) (s : Store) (m : Mirrors) (v : ℕ) → IsReadable p g s m → Contains m.vertices v → p.IsDatum (replica_of m v)
-replica_own p g s m v readable has = let is = replica_at m v has.0 readable.ascending has.1 (get_or_default m.vertices has.0 0 v has.1 ∙ has.2) in
-    subst p.IsDatum is (readable.values has.0 has.1)
+-- an end of an edge of the store, read at the place of its replica
+module _ {Acc Carry : Type 0} (p : Program Acc Carry) (g : Multigraph) (s : Store) (m : Mirrors) (readable : IsReadable p g s m) (i : ℕ) (h : i < length s.numbers) (side : Side) where
+  pub end_within : end_of side (local_at s i) < length m.vertices
+  end_within = omega (arith, readable.over.within i h side, ap length readable.vertices)
+
+  -- the vertex there is that of the graph
+  pub end_vertex : get_or m.vertices (end_of side (local_at s i)) 0 ≡ end_at g side (get_or s.numbers i 0)
+  end_vertex = ap (λ vertices. get_or vertices (end_of side (local_at s i)) 0) (sym readable.vertices) ∙ readable.over.ends i h side
+
+  pub end_datum : datum_at m.values (end_of side (local_at s i)) ≡ replica_of m (end_at g side (get_or s.numbers i 0))
+  end_datum = replica_at m (end_at g side (get_or s.numbers i 0)) (end_of side (local_at s i)) readable.ascending end_within end_vertex
+
+  -- and its datum is the program's
+  pub end_own : p.IsDatum (datum_at m.values (end_of side (local_at s i)))
+  end_own = readable.values (end_of side (local_at s i)) end_within
 
 -- an edge from its parts
-pub near_is : (g : Multigraph) (s : Store) (m : Mirrors) (u place : ℕ) (side : Side) (edge : EdgeInfo) (word : ℕ) (centre other : Datum)
-    → (let e = get_or s.numbers place 0 in (side ≡ side_at g u e) × (edge ≡ edge_info g e) × (word ≡ get_or s.words place 0) × (centre ≡ replica_of m (end_at g (side_at g u e) e)) × (other ≡ replica_of m (end_at g (opposite (side_at g u e)) e)))
-    → ◌≡◌ {A = Near} (record { side = side; edge = edge; word = word; centre = centre; other = other }) (near_at g s m (side_at g u (get_or s.numbers place 0)) place)
-near_is g s m u place side edge word centre other parts = rw (parts.0, parts.1, parts.2, parts.3, parts.4) refl
+pub near_is : (g : Multigraph) (s : Store) (m : Mirrors) (side : Side) (place : ℕ) (edge : EdgeInfo) (word : ℕ) (centre other : Datum)
+    → (let e = get_or s.numbers place 0 in (edge ≡ edge_info g e) × (word ≡ get_or s.words place 0) × (centre ≡ replica_of m (end_at g side e)) × (other ≡ replica_of m (end_at g (opposite side) e)))
+    → ◌≡◌ {A = Near} (record { side = side; edge = edge; word = word; centre = centre; other = other }) (near_at g s m side place)
+near_is g s m side place edge word centre other parts = rw (parts.0, parts.1, parts.2, parts.3) refl

@@ -22,7 +22,7 @@ use Rattle.pg_cut.specs.Cut.{Division, IsCutOf, edges_on, vertices_on, span_in, 
 use Rattle.pg_cut.proofs.Kept.{is_in-workers_that}
 use Rattle.pg_cut.proofs.Passing.{passing_longer, passing_at}
 use Rattle.pg_edge_store.specs.Store.{Store, places_around}
-use Rattle.pg_edge_store.proofs.Ends.{around_is}
+use Rattle.pg_edge_store.proofs.Places.{around_is}
 use Rattle.pg_mirrors.specs.Mirrors.{Mirrors, datum_at}
 use Rattle.pg_mirrors.proofs.Pushing.{replicas_in_spans, vertices_rise, vertices_inside}
 use Rattle.pg_gather.specs.Partials.{replica_of, near_at, gathered_at, partial_sum, IsReadable, IsReadableAt}
@@ -97,6 +97,7 @@ module _ {Acc Carry : Type 0} (p : Program Acc Carry) (g : Multigraph) (cut : Di
   pub readable : IsFit p g s → IsReadable p g store mirrors
   readable fit = record {
     over = share.edges.over;
+    vertices = share.edges.vertices ∙ sym vertices_are;
     edges = all_readable;
     words = λ i h. subst p.IsWord (sym (word_is i h)) (fit.words.each _ (all_readable i 0 h).edge);
     ascending = rw vertices_are (vertices_rise cut worker);
@@ -133,11 +134,11 @@ module _ {Acc Carry : Type 0} (p : Program Acc Carry) (g : Multigraph) (cut : Di
       ∙ ap (sum_over p g s.values s.edges u) (edges_are share.edges.numbers)
     where
       edges_are : store.numbers ≡ edges_on cut.place worker → map (λ i. get_or store.numbers i 0) (places_around g store.numbers u p.gather_edges) ≡ part (slice_index cut.place) worker (edges_over p.gather_edges g u)
-      edges_are same = rw same (around_is g cut.place worker is.placed.count u p.gather_edges)
+      edges_are same = rw same (around_is g cut.place worker u p.gather_edges is.placed.count)
 
   -- as many places as edges
   pub places_count : (u : ℕ) → length (places_around g store.numbers u p.gather_edges) ≡ length (part (slice_index cut.place) worker (edges_over p.gather_edges g u))
   places_count u = sym (length-map (places_around g store.numbers u p.gather_edges) (λ i. get_or store.numbers i 0)) ∙ ap length (edges_are share.edges.numbers)
     where
       edges_are : store.numbers ≡ edges_on cut.place worker → map (λ i. get_or store.numbers i 0) (places_around g store.numbers u p.gather_edges) ≡ part (slice_index cut.place) worker (edges_over p.gather_edges g u)
-      edges_are same = rw same (around_is g cut.place worker is.placed.count u p.gather_edges)
+      edges_are same = rw same (around_is g cut.place worker u p.gather_edges is.placed.count)

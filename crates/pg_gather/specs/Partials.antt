@@ -1,5 +1,5 @@
 -- What one worker gathers: over the edges of its own store, through its own replicas.
-use Rattle.std.specs.Prelude.{ℕ, ◌<◌, Bool, ◌==◌, List, length, slice_index, map, filter, fold, sum_by, All, Contains}
+use Rattle.std.specs.Prelude.{◌≡◌, ℕ, ◌<◌, Bool, ◌==◌, List, length, slice_index, map, filter, fold, sum_by, All, Contains}
 use Rattle.std.specs.List.{list_any, position_or_len}
 use Rattle.std.specs.List.Sorted.{IsStrictlyIncreasing}
 use Rattle.pg_graph.specs.declared.edge.Side.{Side}
@@ -33,11 +33,12 @@ pub record IsReadableAt (g : Multigraph) (m : Mirrors) (e : ℕ) : Type 0 where
   pub edge : e < length g.edges
   pub ends : (side : Side) → Contains m.vertices (end_at g side e)
 
--- the store is of this graph, its edges have their ends among the replicas, and all values are
--- those of the program
+-- the store is of this graph, its edges stand between these replicas, and all values are those of
+-- the program
 pub record IsReadable {Acc Carry : Type 0} (p : Program Acc Carry) (g : Multigraph)
     (s : Store) (m : Mirrors) : Type 0 where
   pub over : IsOver g s
+  pub vertices : s.vertices ≡ m.vertices
   pub edges : All (IsReadableAt g m) s.numbers
   pub words : (i : ℕ) → i < length s.numbers → p.IsWord (slice_index s.words i)
   pub ascending : IsStrictlyIncreasing m.vertices

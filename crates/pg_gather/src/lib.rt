@@ -10,5 +10,4 @@ mod tests;
 
 pub use laws::{parts_are_fresh, shares_are_readable};
 pub use merge::merge_at_masters;
-pub use near::replica_datum;
 pub use partial::partial_sums;

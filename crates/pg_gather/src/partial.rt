@@ -1,41 +1,49 @@
 //! What one worker sums.
-ghost use Rattle.std.specs.Prelude.{◌≡◌, ◌+◌, ◌++◌, ◌∷◌, [], ◌<◌, cond, length, All, IfOk, OnOk};
+ghost use Rattle.std.specs.Prelude.{◌≡◌, ◌+◌, ◌++◌, ◌∷◌, [], ◌<◌, cond, length, slice_index};
+ghost use Rattle.std.specs.Prelude.{IfOk, OnOk};
 ghost use Rattle.pg_edge_store.specs.Store.{places_around};
-ghost use Rattle.pg_gather.specs.Partials.{IsReadable, has_replica, replica_of, gathers_here};
+ghost use Rattle.pg_gather.specs.Partials.{IsReadable, has_replica, gathers_here};
 ghost use Rattle.pg_gather.specs.Partials.{partial_sum as part_of, partial_sums as parts_of};
 
 use crate::near::near_at;
 use pg_edge_store::EdgeStore;
 use pg_graph::Graph;
-use pg_law::{Datum, Steps, VertexProgram, laws_of};
+use pg_law::{Steps, VertexProgram, laws_of};
 use pg_mirrors::MirrorTable;
 use std::alloc::{AllocError, Global};
 use std::sync::ledger::Ledger;
 
-/// The sum of a vertex, whose replica has the datum `centre`, over its gather edges of this store.
+/// The sum of the vertex of a replica over its gather edges of this store.
 fn partial_sum<P: VertexProgram, L: Ledger>(
     alloc: Global,
     program: &P,
     graph: &Graph,
     store: &EdgeStore,
     mirrors: &MirrorTable,
-    u: u32,
-    centre: Datum,
+    replica: u32,
     steps: &mut Steps<L>,
 ) -> Result<P::Acc, AllocError>
     requires readable { IsReadable (P.meaning program.now) graph.now store.now mirrors.now }
-    requires centre { centre ≡ replica_of mirrors.now u }
-    requires own { (P.meaning program.now).IsDatum centre }
+    requires replica { replica < length store.now.vertices }
     ensures sum { let p = P.meaning program.now in
+        let u = slice_index store.now.vertices replica in
         IfOk result (λ acc. acc ≡ part_of p graph.now store.now mirrors.now u) }
-    ensures counted { let p = P.meaning program.now in OnOk result (steps.new ≡ steps.old +
+    ensures counted { let p = P.meaning program.now in
+        let u = slice_index store.now.vertices replica in OnOk result (steps.new ≡ steps.old +
         length (places_around graph.now store.now.numbers u p.gather_edges)) }
 {
     laws_of(program);
+    let dir = program.gather_edges();
+    let centre = mirrors.datum(replica);
+    let row = store.row(replica);
     let mut acc = program.empty(alloc)?;
-    let places = store.around(u, program.gather_edges()).places;
-    for place in places {
-        let near = near_at(program, graph, store, mirrors, u, centre, *place);
+    for place in row {
+        let local = store.local(*place);
+        let side = local.side(replica);
+        if !dir.takes(side) {
+            continue;
+        }
+        let near = near_at(program, graph, store, mirrors, side, centre, *place, local);
         let part = program.gather(alloc, near, steps)?;
         acc = program.sum(alloc, acc, &part)?;
     }
@@ -60,11 +68,10 @@ fn push_sum<P: VertexProgram, L: Ledger>(
     ensures counted { let p = P.meaning program.now in OnOk result (steps.new ≡ steps.old +
         length (places_around graph.now store.now.numbers u p.gather_edges)) }
 {
-    let Some(place) = mirrors.replica(u) else {
+    let Some(replica) = mirrors.replica(u) else {
         return Ok(());
     };
-    let centre = mirrors.datum(place);
-    let sum = partial_sum(alloc, program, graph, store, mirrors, u, centre, steps)?;
+    let sum = partial_sum(alloc, program, graph, store, mirrors, replica, steps)?;
     sums.push((u, sum))?;
     Ok(())
 }

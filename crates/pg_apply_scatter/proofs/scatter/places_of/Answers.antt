@@ -1,4 +1,5 @@
-use Rattle.std.proofs.Common.{◌≡◌, ◌++◌, ℕ, None, is_some, length, subst, sym, ◌∙◌, ap, arith}
+use Rattle.std.proofs.Common.{◌≡◌, ◌++◌, Bool, ℕ, None, is_some, length, subst, sym, ◌∙◌, ap, arith}
+use Rattle.std.specs.Bool.{OnTrue}
 use Rattle.std.proofs.lemmas.List.{get_or_read}
 use Rattle.pg_edge_store.specs.Store.{places_around}
 use Rattle.pg_apply_scatter.specs.Places.{ArePlaces}
@@ -12,9 +13,13 @@ loop-v-preserved-then-is_none g c = let p = g.P.VertexProgram.meaning c.args.pro
 
 pub loop-v-preserved : goal.loop-v-preserved
 loop-v-preserved g c = let p = g.P.VertexProgram.meaning c.args.program.now in
-    let around : c.around.result.places.now ≡ places_around c.args.graph.now c.args.store.now.numbers c.loop-v.v p.scatter_edges = c.around.ensures c.args.graph.now c.requires.over ∙ ap (places_around c.args.graph.now c.args.store.now.numbers c.loop-v.v) c.scatter_edges-dir.ensures in
-    let items : c.extend_from_slice.new.self.items ≡ c.loop-v.places.items ++ places_around c.args.graph.now c.args.store.now.numbers c.loop-v.v p.scatter_edges = c.in_ok-extend_from_slice.ensures.items ∙ ap (λ xs. c.loop-v.places.items ++ xs) around in
-    rw items (places_more c.args.graph.now c.args.store.now.numbers p.scatter_edges c.args.carries.now c.loop-v.v c.loop-v.places.items c.loop-v.invariant)
+    let graph = c.args.graph.now in
+    let numbers = c.args.store.now.numbers in
+    let before = c.loop-v.places.items in
+    let Said : Bool → Type 0 = λ all. OnTrue all (c.append_around.new.places.items ≡ before ++ places_around graph numbers c.loop-v.v c.scatter_edges-dir.result) in
+    let items : c.append_around.new.places.items ≡ before ++ places_around graph numbers c.loop-v.v p.scatter_edges = subst Said c.if-not-branch.false (c.in_ok-append_around.ensures graph c.requires.over)
+    ∙ ap (λ dir. before ++ places_around graph numbers c.loop-v.v dir) c.scatter_edges-dir.ensures in
+    rw items (places_more graph numbers p.scatter_edges c.args.carries.now c.loop-v.v before c.loop-v.invariant)
 
 pub returns : goal.returns
 returns g c = let p = g.P.VertexProgram.meaning c.args.program.now in

@@ -5,22 +5,22 @@ use Rattle.pg_apply_scatter.proofs.scatter.scatter_all.Goals as goal
 pub loop-place-init : goal.loop-place-init
 loop-place-init g c = let p = g.P.VertexProgram.meaning c.args.program.now in record {
   readable = c.requires.readable;
-  visited = rw c.new-sent.ensures.items (visited_none p c.args.graph.now c.args.mirrors.now c.args.carries.now c.args.store.now);
+  visited = rw c.new-sent.ensures.items (visited_none p c.args.graph.now c.args.mirrors.now c.args.carries.now c.args.store.now c.args.with_deltas);
 }
 
 pub loop-place-preserved : goal.loop-place-preserved
 loop-place-preserved g c = let p = g.P.VertexProgram.meaning c.args.program.now in record {
   readable = c.in_ok-visit_place.ensures.readable;
-  visited = visited_more p c.args.graph.now c.args.mirrors.now c.args.carries.now c.args.store.now c.loop-place.place c.loop-place.store c.visit_place.new.store c.loop-place.sent.items c.visit_place.new.sent.items
+  visited = visited_more p c.args.graph.now c.args.mirrors.now c.args.carries.now c.args.store.now c.args.with_deltas c.loop-place.place c.loop-place.store c.visit_place.new.store c.loop-place.sent.items c.visit_place.new.sent.items
       c.len-place-end.ensures.words (omega (arith, c.loop-place-test.true, c.len-place-end.ensures.value)) c.loop-place.invariant.visited c.in_ok-visit_place.ensures.words c.in_ok-visit_place.ensures.sent;
 }
 
 pub returns-clause-words : goal.returns-clause-words
 returns-clause-words g c = let p = g.P.VertexProgram.meaning c.args.program.now in
-    visited_all p c.args.graph.now c.args.mirrors.now c.args.carries.now c.args.store.now c.loop-place.place c.loop-place.store c.loop-place.sent.items c.len-place-end.ensures.words
+    visited_all p c.args.graph.now c.args.mirrors.now c.args.carries.now c.args.store.now c.args.with_deltas c.loop-place.place c.loop-place.store c.loop-place.sent.items c.len-place-end.ensures.words
     (omega (arith, c.loop-place-test.false, c.loop-place.auto.place-end, c.len-place-end.ensures.value)) c.loop-place.invariant.visited
 
 pub returns-clause-sent : goal.returns-clause-sent
 returns-clause-sent g c = let p = g.P.VertexProgram.meaning c.args.program.now in
-    sent_all p c.args.graph.now c.args.mirrors.now c.args.carries.now c.args.store.now c.loop-place.place c.loop-place.store c.loop-place.sent.items
+    sent_all p c.args.graph.now c.args.mirrors.now c.args.carries.now c.args.store.now c.args.with_deltas c.loop-place.place c.loop-place.store c.loop-place.sent.items
     (omega (arith, c.loop-place-test.false, c.loop-place.auto.place-end, c.len-place-end.ensures.value)) c.loop-place.invariant.visited

@@ -7,5 +7,5 @@ abbrev pub invariant-loop-place : goal.invariant-loop-place
 invariant-loop-place g l = let p = g.P.VertexProgram.meaning l.program in
     record {
       readable : IsReadable p l.graph l.store l.mirrors;
-      visited : AreVisited p l.graph l.mirrors l.carries l.initial.store l.place l.store l.sent.items;
+      visited : AreVisited p l.graph l.mirrors l.carries l.initial.store l.with_deltas l.place l.store l.sent.items;
     }

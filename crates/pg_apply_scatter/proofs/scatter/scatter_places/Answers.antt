@@ -7,7 +7,7 @@ use Rattle.pg_apply_scatter.proofs.scatter.scatter_places.Goals as goal
 pub loop-place-init : goal.loop-place-init
 loop-place-init g c = let p = g.P.VertexProgram.meaning c.args.program.now in record {
   readable = c.requires.readable;
-  visited = rw c.new-sent.ensures.items (visited_none p c.args.graph.now c.args.mirrors.now c.args.carries.now c.args.store.now);
+  visited = rw c.new-sent.ensures.items (visited_none p c.args.graph.now c.args.mirrors.now c.args.carries.now c.args.store.now c.args.with_deltas);
   passed = λ i h. absurd (omega arith);
   within = omega arith;
 }
@@ -51,9 +51,9 @@ loop-place-preserved g c =
     let below = sorted.are.within c.loop-place.place-index 0 c.loop-place-test.true in
     record {
       readable = c.in_ok-visit_place.ensures.readable;
-      visited = visited_more p c.args.graph.now c.args.mirrors.now c.args.carries.now first place c.loop-place.store c.visit_place.new.store c.loop-place.sent.items c.visit_place.new.sent.items
+      visited = visited_more p c.args.graph.now c.args.mirrors.now c.args.carries.now first c.args.with_deltas place c.loop-place.store c.visit_place.new.store c.loop-place.sent.items c.visit_place.new.sent.items
           c.len.ensures.words below
-          (to_place p c.args.graph.now c.args.mirrors.now c.args.carries.now c.vertices.ensures.graph c.requires.carries.count first c.as_slice-ascending.result.now sorted inside c.loop-place.place-index c.loop-place.next c.loop-place.store c.loop-place.sent.items
+          (to_place p c.args.graph.now c.args.mirrors.now c.args.carries.now c.vertices.ensures.graph c.requires.carries.count first c.as_slice-ascending.result.now sorted inside c.args.with_deltas c.loop-place.place-index c.loop-place.next c.loop-place.store c.loop-place.sent.items
           c.loop-place-test.true c.loop-place.invariant.passed c.if-place-next.false c.loop-place.invariant.visited)
           c.in_ok-visit_place.ensures.words c.in_ok-visit_place.ensures.sent;
       passed = let Passed : ℕ → Type 0 = λ i. get_or c.as_slice-ascending.result.now i 0 < place + 1 in
@@ -68,9 +68,9 @@ returns-clause-words g c =
     let sorted = ascending c.args.graph.now first.numbers p.scatter_edges c.args.carries.now (length c.args.graph.now.ids) c.args.places.items c.sort_unstable.new.self.items c.as_slice-ascending.result.now
     c.sort_unstable.ensures.permutation c.sort_unstable.ensures.sorted c.as_slice-ascending.ensures.value c.requires.places in
     let inside = λ (i d : ℕ) (h : i < length first.numbers). (c.requires.readable.edges i d h).edge in
-    let all = to_end p c.args.graph.now c.args.mirrors.now c.args.carries.now c.vertices.ensures.graph c.requires.carries.count first c.as_slice-ascending.result.now sorted inside c.loop-place.next c.loop-place.store c.loop-place.sent.items
+    let all = to_end p c.args.graph.now c.args.mirrors.now c.args.carries.now c.vertices.ensures.graph c.requires.carries.count first c.as_slice-ascending.result.now sorted inside c.args.with_deltas c.loop-place.next c.loop-place.store c.loop-place.sent.items
     (λ i h. c.loop-place.invariant.passed i (omega (arith, h, c.loop-place-test.false))) c.loop-place.invariant.within c.loop-place.invariant.visited in
-    visited_all p c.args.graph.now c.args.mirrors.now c.args.carries.now first (length first.numbers) c.loop-place.store c.loop-place.sent.items c.len.ensures.words refl all
+    visited_all p c.args.graph.now c.args.mirrors.now c.args.carries.now first c.args.with_deltas (length first.numbers) c.loop-place.store c.loop-place.sent.items c.len.ensures.words refl all
 
 pub returns-clause-sent : goal.returns-clause-sent
 returns-clause-sent g c =
@@ -79,6 +79,6 @@ returns-clause-sent g c =
     let sorted = ascending c.args.graph.now first.numbers p.scatter_edges c.args.carries.now (length c.args.graph.now.ids) c.args.places.items c.sort_unstable.new.self.items c.as_slice-ascending.result.now
     c.sort_unstable.ensures.permutation c.sort_unstable.ensures.sorted c.as_slice-ascending.ensures.value c.requires.places in
     let inside = λ (i d : ℕ) (h : i < length first.numbers). (c.requires.readable.edges i d h).edge in
-    let all = to_end p c.args.graph.now c.args.mirrors.now c.args.carries.now c.vertices.ensures.graph c.requires.carries.count first c.as_slice-ascending.result.now sorted inside c.loop-place.next c.loop-place.store c.loop-place.sent.items
+    let all = to_end p c.args.graph.now c.args.mirrors.now c.args.carries.now c.vertices.ensures.graph c.requires.carries.count first c.as_slice-ascending.result.now sorted inside c.args.with_deltas c.loop-place.next c.loop-place.store c.loop-place.sent.items
     (λ i h. c.loop-place.invariant.passed i (omega (arith, h, c.loop-place-test.false))) c.loop-place.invariant.within c.loop-place.invariant.visited in
-    sent_all p c.args.graph.now c.args.mirrors.now c.args.carries.now first (length first.numbers) c.loop-place.store c.loop-place.sent.items refl all
+    sent_all p c.args.graph.now c.args.mirrors.now c.args.carries.now first c.args.with_deltas (length first.numbers) c.loop-place.store c.loop-place.sent.items refl all

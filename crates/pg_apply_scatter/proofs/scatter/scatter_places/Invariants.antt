@@ -8,7 +8,7 @@ abbrev pub invariant-loop-place : goal.invariant-loop-place
 invariant-loop-place g l = let p = g.P.VertexProgram.meaning l.program in
     record {
       readable : IsReadable p l.graph l.store l.mirrors;
-      visited : AreVisited p l.graph l.mirrors l.carries l.initial.store l.next l.store l.sent.items;
+      visited : AreVisited p l.graph l.mirrors l.carries l.initial.store l.with_deltas l.next l.store l.sent.items;
       passed : (i : ℕ) → i < l.place-index → get_or l.ascending i 0 < l.next;
       within : l.next ≤ length l.initial.store.numbers;
     }

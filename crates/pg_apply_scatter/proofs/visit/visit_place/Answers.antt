@@ -6,6 +6,7 @@ use Rattle.pg_edge_store.specs.Store.{Store}
 use Rattle.pg_gather.specs.Partials.{IsReadable}
 use Rattle.pg_law.proofs.Fitting.{end_within, word_own}
 use Rattle.pg_apply_scatter.specs.Sending.{source_here, between_here, target_here}
+use Rattle.pg_apply_scatter.proofs.Reading.{replicas_here}
 use Rattle.pg_apply_scatter.proofs.Visiting.{readable_after, visited, final_is, sent_is}
 use Rattle.pg_apply_scatter.proofs.visit.visit_place.Goals as goal
 
@@ -13,10 +14,25 @@ use Rattle.pg_apply_scatter.proofs.visit.visit_place.Goals as goal
 inside : (g : _) (c : goal.After-index-carries-edge-2 g) → c.edge-e.result < length c.args.graph.now.edges
 inside g c = rw c.edge-e.ensures (c.requires.readable.edges c.args.place 0 c.requires.place).edge
 
+pub scatter_from-requires-clause-carry : goal.scatter_from-requires-clause-carry
+scatter_from-requires-clause-carry g c κs within = let graph = c.args.graph.now in let p = g.P.VertexProgram.meaning c.args.program.now in
+    let below : c.edge-e.result < length graph.edges = rw c.edge-e.ensures (c.requires.readable.edges c.args.place 0 c.requires.place).edge in
+    let read = end_read graph c.args.carries.now c.edges.result.now Source c.edge-e.result c.index-carries-edge.result None c.edges.ensures.graph c.edges.ensures.value below c.requires.carries.count c.index-carries-edge.is in
+    rw read (c.requires.carries.each (end_at graph Source c.edge-e.result) (end_within p graph c.laws_of.ensures c.edges.ensures.graph Source c.edge-e.result below))
+
 pub scatter_from-requires-2-clause-carry : goal.scatter_from-requires-2-clause-carry
 scatter_from-requires-2-clause-carry g c κs within = let graph = c.args.graph.now in let p = g.P.VertexProgram.meaning c.args.program.now in
     let read = end_read graph c.args.carries.now c.edges.result.now Target c.edge-e.result c.index-carries-edge-2.result None c.edges.ensures.graph c.edges.ensures.value (inside g c) c.requires.carries.count c.index-carries-edge-2.is in
     rw read (c.requires.carries.each (end_at graph Target c.edge-e.result) (end_within p graph c.laws_of.ensures c.edges.ensures.graph Target c.edge-e.result (inside g c)))
+
+-- the edge between replicas is that of the edge of the graph
+pub scatter_from-requires-clause-local : goal.scatter_from-requires-clause-local
+scatter_from-requires-clause-local g c κs within = rw (c.edge-e.ensures, c.local-local.ensures)
+    (replicas_here (g.P.VertexProgram.meaning c.args.program.now) c.args.graph.now c.args.store.now c.args.mirrors.now c.args.place c.requires.readable c.requires.place)
+
+pub scatter_from-requires-2-clause-local : goal.scatter_from-requires-2-clause-local
+scatter_from-requires-2-clause-local g c κs within = rw (c.edge-e.ensures, c.local-local.ensures)
+    (replicas_here (g.P.VertexProgram.meaning c.args.program.now) c.args.graph.now c.args.store.now c.args.mirrors.now c.args.place c.requires.readable c.requires.place)
 
 -- what the two visits gave
 visits : (g : _) (c : goal.In_ok-push_sent-2 g) → let p = g.P.VertexProgram.meaning c.args.program.now in
@@ -38,7 +54,7 @@ returns-clause-words g c = let both = visits g c in
 
 pub returns-clause-sent : goal.returns-clause-sent
 returns-clause-sent g c = let both = visits g c in
-    sent_is (g.P.VertexProgram.meaning c.args.program.now) c.args.graph.now c.args.mirrors.now c.args.carries.now c.args.store.now c.args.place c.edge-e.result c.word-word.result c.args.sent.now.items c.push_sent-2.new.sent.items c.push_sent.new.sent.items _ _ c.in_ok-source.source c.in_ok-target.target
+    sent_is (g.P.VertexProgram.meaning c.args.program.now) c.args.graph.now c.args.mirrors.now c.args.carries.now c.args.store.now c.args.with_deltas c.args.place c.edge-e.result c.word-word.result c.args.sent.now.items c.push_sent-2.new.sent.items c.push_sent.new.sent.items _ _ c.in_ok-source.source c.in_ok-target.target
     c.edge-e.ensures c.word-word.ensures (rw c.edges.ensures.value refl) (rw c.edges.ensures.value refl) both.0 both.2 c.in_ok-push_sent.ensures c.in_ok-push_sent-2.ensures
 
 pub returns-clause-readable : goal.returns-clause-readable
