@@ -14,7 +14,7 @@ use Rattle.pg_graph.proofs.Numbers.{length_filter_more}
 use Rattle.pg_law.specs.Round.{edges_over}
 use Rattle.pg_sync.proofs.Summing.{sum_of_none, sum_of_both}
 
-both_tests : (p q : ℕ → Bool) (xs : List ℕ) → filter q (filter p xs) ≡ filter (λ x. p x && q x) xs
+pub both_tests : (p q : ℕ → Bool) (xs : List ℕ) → filter q (filter p xs) ≡ filter (λ x. p x && q x) xs
 both_tests p q [] = refl
 both_tests p q (x ∷ xs) = by_first (p x) (both_tests p q xs)
   where

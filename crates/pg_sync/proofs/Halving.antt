@@ -14,7 +14,7 @@ use Rattle.pg_law.specs.declared.values.Datum.{Datum}
 use Rattle.pg_law.specs.declared.values.Applied.{Applied}
 use Rattle.pg_law.specs.Values.{one}
 use Rattle.pg_law.specs.Program.{Program}
-use Rattle.pg_law.specs.Laws.{IsLawful}
+use Rattle.pg_law.specs.Laws.{IsLawful, KeepsGathers}
 use Rattle.pg_law.specs.Configuration.{Configuration, IsFit, datum_in, message_in, signalled, is_signalled}
 use Rattle.pg_law.specs.Carries.{carry_at, carry_in, AreCarries, IsCarried}
 use Rattle.pg_law.specs.Round.{became_at, AreApplied, IsBecome, datum_after, message_after, outcomes, fresh, values_after, messages_after, round}
@@ -31,8 +31,11 @@ use Rattle.pg_apply_scatter.specs.Pushing.{table_at, ArePushed}
 use Rattle.pg_apply_scatter.specs.Sending.{IsSentIn, sent_from}
 use Rattle.pg_apply_scatter.specs.Applying.{applied_by}
 use Rattle.pg_apply_scatter.specs.Halves.{entry_of, became_by, data_of, applied_state, applied_round, store_after, sent_by_all, AreCarriesOf, AreRounded}
-use Rattle.pg_apply_scatter.specs.Delivering.{message_from, AreCombined}
+use Rattle.pg_delta.specs.declared.cell.CacheCell.{CacheCell}
+use Rattle.pg_delta.specs.Cell.{posted}
+use Rattle.pg_apply_scatter.specs.Delivering.{message_from, cell_in, cell_from, AreCombined, ArePosted, AreCellsOf}
 use Rattle.pg_apply_scatter.proofs.Visiting.{sent_own}
+use Rattle.pg_apply_scatter.proofs.Caching.{cell_posted}
 use Rattle.pg_apply_scatter.proofs.Rounding.{parts_are_a_round}
 use Rattle.pg_apply_scatter.proofs.Applying.{masters_become, pushes_share}
 use Rattle.pg_sync.specs.declared.worker.Scattering.{Scattering}
@@ -40,7 +43,9 @@ use Rattle.pg_sync.specs.declared.masters.Masters.{Masters}
 use Rattle.pg_sync.specs.Phases.{AreReadable, HasScattered}
 use Rattle.pg_sync.specs.Masters.{IsWritten}
 use Rattle.pg_sync.specs.Held.{no_worker, store_at, IsHeld}
+use Rattle.pg_sync.specs.Cells.{AreTold}
 use Rattle.pg_sync.proofs.Holding.{wanted_apart}
+use Rattle.pg_sync.proofs.Keeping.{delta_is}
 
 -- what follows from what holds after success
 pub on_ok_then : {T E : Type 0} (r : Result T E) (A B : Type 0) → (A → B) → OnOk r A → OnOk r B
@@ -254,3 +259,12 @@ module _ {Acc Carry : Type 0} (p : Program Acc Carry) (law : IsLawful p) (g : Mu
           rounded = parts_are_a_round p law g cut s after.carries.items (store_at workers) (table_at old) (table_at mirrors) ok is held.fit held.shares
               (λ w h. let Pushed : List (ℕ × Applied Carry) → Type 0 = λ xs. Pushes (table_at old w) (table_at mirrors w) (data_of xs) in subst Pushed applies (pushed.each w (omega (arith, h, held.tables))))
               (let Carried : List (ℕ × Applied Carry) → Type 0 = λ xs. AreCarriesOf after.carries.items (became_by g xs) in subst Carried applies carries_of)
+
+      -- the cells have all posted that a round sends to their vertices
+      pub cells_told : (speaks : KeepsGathers p) (cells last : List (CacheCell Acc)) → AreCellsOf p cells → ArePosted p (lists_in lists) cells last → AreTold p g s cells last
+      cells_told speaks cells last own posts v h =
+          let Carried : List (Option (Applied Carry)) → Type 0 = λ b. AreCarriesOf after.carries.items b in
+          let Shared : List (Option (Applied Carry)) → Type 0 = λ b. (w : ℕ) → w < cut.workers → IsShareOf g cut w (applied_state p g s b) (store_at workers w) (table_at mirrors w) in
+          posts v h ∙ ap (cell_from p v (cell_in cells v)) lists_sent
+          ∙ cell_posted p law speaks g ok s held.fit cut after.carries.items (store_at workers) (table_at mirrors) (cell_in cells v) is (subst Carried became_is carries_of) (subst Shared became_is (share_pushed mirrors pushed)) (own v h).pending v
+          ∙ ap (posted p.sum (cell_in cells v)) (sym (delta_is p law g ok s held.fit speaks v))

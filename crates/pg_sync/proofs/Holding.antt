@@ -30,7 +30,7 @@ use Rattle.pg_apply_scatter.specs.Applying.{IsMastered, applied_masters}
 use Rattle.pg_apply_scatter.specs.Halves.{applied_round}
 use Rattle.pg_sync.specs.declared.worker.Scattering.{Scattering}
 use Rattle.pg_sync.specs.Phases.{Seat, AreReadable}
-use Rattle.pg_sync.specs.Held.{no_worker, store_at, IsHeld}
+use Rattle.pg_sync.specs.Held.{no_worker, store_at, IsHeld, IsShared}
 
 -- lists that were taken from the seats, each what its worker gathered
 gathered_from : {Acc : Type 0} (f : ℕ → List (ℕ × Acc)) (a : ℕ) (parts : List (Vec (ℕ × Acc) Global)) (seats : List (Seat Acc)) → map Some parts ≡ map (λ seat. seat.1) seats
@@ -100,9 +100,9 @@ module _ {Acc Carry : Type 0} (p : Program Acc Carry) (law : IsLawful p) (g : Mu
   pub wanted_apart : AllPairs (λ a b. a ≢ b) (signalled g s)
   wanted_apart = AllPairs-filter (λ a b. a ≢ b) (is_signalled s) (vertices g) (numbers_apart (length g.ids))
 
-  -- and it comes to the fresh gathers
-  pub sums_fresh : merged p (signalled g s) (map (partials (signalled g s)) (range_with_len 0 cut.workers)) ≡ map (λ u. (u, fresh p g s u)) (signalled g s)
-  sums_fresh = merged_are_fresh p law g cut s ok is held.fit (signalled g s) wanted_apart (store_at workers) (table_at mirrors) held.shares
+  -- and it comes to the fresh gathers of those that were wanted
+  pub merged_is : (wanted : List ℕ) (lists : List (List (ℕ × Acc))) → AllPairs (λ a b. a ≢ b) wanted → lists ≡ map (partials wanted) (range_with_len 0 cut.workers) → merged p wanted lists ≡ map (λ u. (u, fresh p g s u)) wanted
+  merged_is wanted lists apart is_lists = ap (merged p wanted) is_lists ∙ merged_are_fresh p law g cut s ok is held.fit wanted apart (store_at workers) (table_at mirrors) held.shares
 
   -- all that apply are signalled
   pub are_mastered : All (IsMastered p g s.messages) (map (λ u. (u, fresh p g s u)) (signalled g s))
@@ -119,11 +119,7 @@ module _ {Acc Carry : Type 0} (p : Program Acc Carry) (law : IsLawful p) (g : Mu
   pub waits_are : waits ≡ signalled g s
   waits_are = ap (λ ms. filter (λ v. is_some (message_in ms v)) (vertices g)) held.messages
 
-  -- so the merged sums are the fresh gathers, and what applies is what a round applies
-  pub merged_is : (wanted : List ℕ) (lists : List (List (ℕ × Acc))) → wanted ≡ waits → lists ≡ map (partials wanted) (range_with_len 0 cut.workers) → merged p wanted lists ≡ map (λ u. (u, fresh p g s u)) (signalled g s)
-  merged_is wanted lists is_wanted is_lists = let same : wanted ≡ signalled g s = is_wanted ∙ waits_are in
-      ap (merged p wanted) is_lists ∙ ap (λ us. merged p us (map (partials us) (range_with_len 0 cut.workers))) same ∙ sums_fresh
-
+  -- so what applies is what a round applies
   pub applied_is : (sums : List (ℕ × Acc)) → sums ≡ map (λ u. (u, fresh p g s u)) (signalled g s) → applied_masters p g values messages sums ≡ applied_round p g s
   applied_is sums is = ap (applied_masters p g values messages) is ∙ ap (λ vs. applied_masters p g vs messages (map (λ u. (u, fresh p g s u)) (signalled g s))) held.values
       ∙ ap (λ ms. applied_masters p g s.values ms (map (λ u. (u, fresh p g s u)) (signalled g s))) held.messages
@@ -144,3 +140,8 @@ still_present {Acc = Acc} mid last kept each k d h =
     let same : (get_or last k d).0 ≡ (get_or mid k d).0 = sym (get_or-map (λ (seat : Seat Acc). seat.0) last k d d.0 h) ∙ ap (λ xs. get_or xs k d.0) kept ∙ get_or-map (λ (seat : Seat Acc). seat.0) mid k d d.0 below in
     let There : Option ℕ → Type 0 = λ o. IsSome o in
     subst There (sym same) (each k d below)
+
+-- the workers' shares of a state that is held
+pub shared_of : {Acc Carry : Type 0} (p : Program Acc Carry) (g : Multigraph) (cut : Division) (s : Configuration) (workers : List (Scattering Acc)) (mirrors : List Mirrors) (values : List Datum) (messages : List (Option ℕ))
+    → IsHeld p g cut s workers mirrors values messages → IsShared p g cut s workers mirrors
+shared_of p g cut s workers mirrors values messages held = record { fit = held.fit; stores = held.stores; tables = held.tables; shares = held.shares; values = refl; messages = refl }

@@ -9,3 +9,8 @@ pub mod Degrees
 pub mod Raising
 pub mod Putting
 pub mod Path
+pub mod Costs
+pub mod Keeping
+pub mod Filling
+pub mod Settling
+pub mod Readying

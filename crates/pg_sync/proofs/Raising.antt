@@ -1,15 +1,13 @@
 -- Counters that rise by the gathers of their workers.
 use Rattle.std.proofs.Common.{◌≡◌, ℕ, zero, suc, ◌+◌, ◌<◌, Option, Some, None, List, [], ◌∷◌, length, get_or, map, refl, sym, subst, ◌∙◌, ap, arith}
-use Rattle.std.specs.Prelude.{All, IsSome, Vec, Result, Ok, Err, OnOk, slice_index}
+use Rattle.std.specs.Prelude.{All, IsSome, Vec, Result, Ok, Err, OnOk, sum_by}
 use Rattle.std.specs.declared.alloc.Global.{Global}
 use Rattle.std.proofs.lemmas.List.{get_or-map, length-map}
 use Rattle.std.proofs.lemmas.List.Elements.{All-map}
 use Rattle.pg_graph.specs.Multigraph.{Multigraph, IsMultigraph}
 use Rattle.pg_law.specs.declared.values.Datum.{Datum}
 use Rattle.pg_law.specs.Program.{Program}
-use Rattle.pg_law.specs.Monoid.{part}
-use Rattle.pg_law.specs.Configuration.{Configuration, signalled}
-use Rattle.pg_law.specs.Round.{edges_over}
+use Rattle.pg_law.specs.Configuration.{Configuration}
 use Rattle.pg_cut.specs.Cut.{Division, IsCutOf}
 use Rattle.pg_edge_store.specs.Store.{places_around}
 use Rattle.pg_mirrors.specs.Mirrors.{Mirrors}
@@ -19,9 +17,9 @@ use Rattle.pg_apply_scatter.specs.Pushing.{table_at}
 use Rattle.pg_sync.specs.declared.worker.Scattering.{Scattering}
 use Rattle.pg_sync.specs.Phases.{Seat, HasGathered}
 use Rattle.pg_sync.specs.Held.{store_at, IsHeld}
-use Rattle.pg_sync.specs.Counting.{gathers_in_on, counters_of, AreRaised}
+use Rattle.pg_sync.specs.Kept.{gather_degree_on}
+use Rattle.pg_sync.specs.Counting.{counters_of, AreRaised}
 use Rattle.pg_sync.proofs.Summing.{sum_agree}
-use Rattle.pg_sync.proofs.Holding.{waits_in}
 
 -- what holds anyway holds after success
 pub on_ok : {T E : Type 0} {P : Type 0} (r : Result T E) → P → OnOk r P
@@ -61,16 +59,15 @@ raised_same f h count first last same raised = λ w below n is. raised w below n
 
 module _ {Acc Carry : Type 0} (p : Program Acc Carry) (g : Multigraph) (ok : IsMultigraph g) (cut : Division) (is : IsCutOf g cut) (s : Configuration)
     (workers : List (Scattering Acc)) (mirrors : List Mirrors) (values : List Datum) (messages : List (Option ℕ)) (held : IsHeld p g cut s workers mirrors values messages)
-    (wanted : List ℕ) (waits : wanted ≡ waits_in g messages) where
+    (wanted : List ℕ) where
   -- a worker's gathers are over its part of the gather edges
-  gathers_are : (w : ℕ) → w < cut.workers → gathers_here p g (store_at workers w) (table_at mirrors w) wanted ≡ gathers_in_on p g cut s w
-  gathers_are w h = ap (gathers_here p g (store_at workers w) (table_at mirrors w)) (waits ∙ ap (waits_in g) held.messages)
-      ∙ sum_agree (λ u. length (places_around g (store_at workers w).numbers u p.gather_edges)) (λ u. length (part (slice_index cut.place) w (edges_over p.gather_edges g u)))
-      (λ u. places_count p g cut w s (store_at workers w) (table_at mirrors w) ok is h (held.shares w h) u) (signalled g s)
+  gathers_are : (w : ℕ) → w < cut.workers → gathers_here p g (store_at workers w) (table_at mirrors w) wanted ≡ sum_by (gather_degree_on p g cut w) wanted
+  gathers_are w h = sum_agree (λ u. length (places_around g (store_at workers w).numbers u p.gather_edges)) (gather_degree_on p g cut w)
+      (λ u. places_count p g cut w s (store_at workers w) (table_at mirrors w) ok is h (held.shares w h) u) wanted
 
   pub counters_rise : (old mid last : List (Seat Acc)) (parts : List (Vec (ℕ × Acc) Global)) → length old ≡ cut.workers → length mid ≡ length old → counters_of last ≡ counters_of mid → map Some parts ≡ map (λ seat. seat.1) mid
       → ((w : ℕ) (d : Seat Acc) → w < length old → HasGathered p g (store_at workers w) (table_at mirrors w) wanted (get_or old w d) (get_or mid w d))
-      → AreRaised (gathers_in_on p g cut s) cut.workers (counters_of old) (counters_of last)
+      → AreRaised (λ w. sum_by (gather_degree_on p g cut w) wanted) cut.workers (counters_of old) (counters_of last)
   counters_rise old mid last parts count same kept taken each = λ w h n is_n. let d : Seat Acc = (None, None) in
       let in_old : w < length old = omega arith in
       let in_mid : w < length mid = omega arith in

@@ -32,7 +32,7 @@ sum_of_both f h [] = refl
 sum_of_both f h (x ∷ xs) = omega (arith, sum_by-cons (λ x. f x + h x) x xs, sum_by-cons f x xs, sum_by-cons h x xs, sum_of_both f h xs)
 
 -- by rows or by columns
-exchanged : (f : ℕ → ℕ → ℕ) (ws us : List ℕ) → sum_by (λ w. sum_by (f w) us) ws ≡ sum_by (λ u. sum_by (λ w. f w u) ws) us
+pub exchanged : (f : ℕ → ℕ → ℕ) (ws us : List ℕ) → sum_by (λ w. sum_by (f w) us) ws ≡ sum_by (λ u. sum_by (λ w. f w u) ws) us
 exchanged f ws [] = sum_of_none ws
 exchanged f ws (u ∷ us) = sum_agree (λ w. sum_by (f w) (u ∷ us)) (λ w. f w u + sum_by (f w) us) (λ w. sum_by-cons (f w) u us) ws
     ∙ sum_of_both (λ w. f w u) (λ w. sum_by (f w) us) ws
@@ -53,7 +53,7 @@ all_own [] = tt
 all_own (x ∷ xs) = (tt, all_own xs)
 
 -- each item is one worker's
-parts_count : (place : ℕ → ℕ) (n : ℕ) (xs : List ℕ) → AllByRecursion (λ x. place x < n) xs → sum_by (λ w. length (part place w xs)) (range_with_len 0 n) ≡ length xs
+pub parts_count : (place : ℕ → ℕ) (n : ℕ) (xs : List ℕ) → AllByRecursion (λ x. place x < n) xs → sum_by (λ w. length (part place w xs)) (range_with_len 0 n) ≡ length xs
 parts_count place n xs below = sum_agree (λ w. length (part place w xs)) (λ w. sum_by (λ (x : ℕ). 1) (part place w xs)) (λ w. sym (sum_of_ones (part place w xs))) (range_with_len 0 n)
     ∙ parts_sum_up (λ (n : ℕ). Unit {0}) 0 (λ a b. a + b) sums (λ (x : ℕ). 1) place n xs below (all_own xs)
     ∙ sum_of_ones xs
@@ -78,7 +78,7 @@ module _ {Acc Carry : Type 0} (p : Program Acc Carry) (g : Multigraph) (cut : Di
   gathers_go s n m w busy e = rw (e, add-one, busy) refl
 
   module _ (is : IsCutOf g cut) where
-    edges_placed : (u : ℕ) → AllByRecursion (λ e. slice_index cut.place e < cut.workers) (edges_over p.gather_edges g u)
+    pub edges_placed : (u : ℕ) → AllByRecursion (λ e. slice_index cut.place e < cut.workers) (edges_over p.gather_edges g u)
     edges_placed u = each_then (λ e. e < length g.edges) (λ e. slice_index cut.place e < cut.workers) (edges_over p.gather_edges g u)
         (λ e h. is.placed.each e (omega (arith, h, is.placed.count)))
         (edges_passing_below g (λ e. takes p.gather_edges (side_at g u e)) u)

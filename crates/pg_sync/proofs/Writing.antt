@@ -12,7 +12,7 @@ use Rattle.pg_sync.specs.declared.masters.Masters.{Masters}
 use Rattle.pg_sync.specs.Masters.{IsWritten, HaveNone, WritesOne}
 
 module _ {A : Type 0} where
-  entry_absent : (xs : List (ℕ × A)) (v : ℕ) → ((k : ℕ) (d : ℕ × A) → k < length xs → (get_or xs k d).0 ≢ v) → entry_of xs v ≡ None
+  pub entry_absent : (xs : List (ℕ × A)) (v : ℕ) → ((k : ℕ) (d : ℕ × A) → k < length xs → (get_or xs k d).0 ≢ v) → entry_of xs v ≡ None
   entry_absent [] v away = refl
   entry_absent (x ∷ xs) v away = ap (λ b. cond b (Some x.1) (entry_of xs v)) (ne_eqb x.0 v (away 0 x (omega arith))) ∙ entry_absent xs v (λ k d h. away (suc k) d (omega (arith, h)))
 

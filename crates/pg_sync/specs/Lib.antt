@@ -1,4 +1,6 @@
 pub mod Phases
+pub mod Kept
+pub mod Cells
 pub mod Held
 pub mod Masters
 pub mod Applying

@@ -6,6 +6,7 @@ use Rattle.pg_law.specs.Configuration.{start_state}
 use Rattle.pg_cut.specs.Cut.{Division, cut_of}
 use Rattle.pg_paths.specs.Components.{components}
 use Rattle.pg_sync.specs.Counting.{gathers_on}
+use Rattle.pg_sync.specs.Kept.{cached_gathers_on}
 
 abbrev pub edge : ℕ → ℕ → Edge
 edge src dst = record { src = src; dst = dst; weight = 1 }
@@ -19,3 +20,8 @@ path_cut = cut_of path 3 (0 ∷ 1 ∷ 2 ∷ [])
 -- what a worker gathers for the components, in ten rounds at most
 abbrev pub path_gathers : ℕ → ℕ
 path_gathers w = gathers_on components path path_cut (start_state components path) 10 w
+
+-- the same with kept gathers
+abbrev pub cached_path_gathers : ℕ → ℕ
+cached_path_gathers w =
+    cached_gathers_on components path path_cut (start_state components path) 10 w

@@ -1,9 +1,9 @@
 //! The engine that makes rounds over a cut.
-ghost use Rattle.std.specs.Prelude.{◌≡◌, length, All, IfOk, OnOk, IsSome};
+ghost use Rattle.std.specs.Prelude.{◌≡◌, length, All, IfOk, OnOk, IsSome, IsTrue};
 ghost use Rattle.pg_law.specs.Configuration.{IsFit};
 ghost use Rattle.pg_law.specs.Rounds.{rounds, end_of};
 ghost use Rattle.pg_cut.specs.Cut.{IsCutOf};
-ghost use Rattle.pg_sync.specs.Counting.{counters_of, AreCounted};
+ghost use Rattle.pg_sync.specs.Counting.{counters_of, gathers_of, AreCounted};
 ghost use Rattle.pg_sync.specs.Going.{IsEndOf};
 
 use crate::masters::Masters;
@@ -38,17 +38,19 @@ fn run_seated<R: Threads + Sync, P: VertexProgram, G: Gate, L: Ledger + Send>(
     graph: &Graph,
     cut: &Cut,
     state: State,
+    cache: bool,
     limit: u32,
     gate: &G,
     seats: &mut [Seat<P::Acc, L>],
 ) -> Result<SyncEnd, AllocError>
     requires cut { IsCutOf graph.now cut.now }
     requires fit { IsFit (P.meaning program.now) graph.now state }
+    requires deltas { IsTrue cache → IsTrue (P.meaning program.now).keeps_deltas }
     requires seats { length seats.old ≡ cut.now.workers }
     requires steps { All (λ seat. IsSome seat.0) seats.old }
-    ensures end { IfOk result (IsEndOf (P.meaning program.now) graph.now state limit) }
+    ensures end { IfOk result (IsEndOf (P.meaning program.now) graph.now cache state limit) }
     ensures counted { let p = P.meaning program.now in
-        OnOk result (AreCounted p graph.now cut.now state limit
+        OnOk result (AreCounted p graph.now cut.now cache state limit
         (counters_of seats.old) (counters_of seats.new)) }
     ensures present { All (λ seat. IsSome seat.0) seats.new }
 {
@@ -69,6 +71,7 @@ fn run_seated<R: Threads + Sync, P: VertexProgram, G: Gate, L: Ledger + Send>(
         parts,
         tables,
         &mut masters,
+        cache,
         limit,
         gate,
     )?;
@@ -93,7 +96,9 @@ impl SyncEngine {
     /// Rounds from a state until nothing is signalled, or so many.
     ///
     /// `steps[w]` is the counter of the worker `w`: it rises by one at each gather over an edge of
-    /// its own. After `Err`, which is want of memory, all counters are there.
+    /// its own. With a `cache` the masters keep a gather for each vertex, which deltas keep true,
+    /// so that a vertex gathers only where none is kept for it; the program has to keep deltas.
+    /// After `Err`, which is want of memory, all counters are there.
     pub fn run<R: Threads + Sync, P: VertexProgram, G: Gate, L: Ledger + Send>(
         rt: &R,
         alloc: Global,
@@ -101,12 +106,14 @@ impl SyncEngine {
         graph: &Graph,
         cut: &Cut,
         state: State,
+        cache: bool,
         limit: u32,
         gate: &G,
         steps: &mut [Option<Steps<L>>],
     ) -> Result<SyncEnd, AllocError>
         requires cut { IsCutOf graph.now cut.now }
         requires fit { IsFit (P.meaning program.now) graph.now state }
+        requires deltas { IsTrue cache → IsTrue (P.meaning program.now).keeps_deltas }
         requires counters { length steps.old ≡ cut.now.workers }
         requires present { All IsSome steps.old }
         ensures state { let p = P.meaning program.now in
@@ -116,16 +123,18 @@ impl SyncEngine {
         ensures executions { let p = P.meaning program.now in
             IfOk result (λ end. end.executions ≡ (rounds p graph.now state limit).executions) }
         ensures gathers { let p = P.meaning program.now in
-            IfOk result (λ end. end.gathers ≡ (rounds p graph.now state limit).gathers) }
+            IfOk result (λ end. end.gathers ≡ gathers_of p graph.now cache state limit) }
         ensures end { let p = P.meaning program.now in
             IfOk result (λ end. end.end ≡ end_of graph.now (rounds p graph.now state limit).state) }
         ensures counted { let p = P.meaning program.now in
-            OnOk result (AreCounted p graph.now cut.now state limit steps.old steps.new) }
+            OnOk result (AreCounted p graph.now cut.now cache state limit steps.old steps.new) }
         ensures present { All IsSome steps.new }
     {
         let mut seats = seats_of(alloc, steps)?;
         let seated = seats.as_mut_slice();
-        let ended = run_seated(rt, alloc, program, graph, cut, state, limit, gate, seated);
+        let ended = run_seated(
+            rt, alloc, program, graph, cut, state, cache, limit, gate, seated,
+        );
         give_back(seats.as_mut_slice(), steps);
         ended
     }

@@ -1,6 +1,7 @@
 //! Rounds over a cut: each worker gathers and scatters over its own edges, in a thread of its own.
 #![tactic(auto)]
 
+mod cells;
 mod collect;
 mod degree;
 mod engine;

@@ -1,5 +1,5 @@
 //! Small graphs on a few workers.
-ghost use Rattle.std.specs.Prelude.{◌≡◌, length, All, IfOk, IsSome};
+ghost use Rattle.std.specs.Prelude.{◌≡◌, length, All, IfOk, IsSome, IsTrue};
 ghost use Rattle.pg_cut.specs.Cut.{IsCutOf};
 
 use crate::{SyncEnd, SyncEngine};
@@ -9,6 +9,7 @@ use pg_cut::Cut;
 use pg_graph::{Graph, GraphBuilder};
 use pg_law::{Datum, End, State, Steps, VertexProgram};
 use pg_paths::Components;
+use pg_rank::PageRank;
 use std::alloc::{AllocError, Global};
 use std::marker::Brand;
 use std::process::Abort;
@@ -66,6 +67,7 @@ struct Case<'a> {
     edges: &'a [(u32, u32)],
     workers: u8,
     places: &'a [u8],
+    cache: bool,
     limit: u32,
 }
 
@@ -77,13 +79,15 @@ fn end_of<R: Threads + Sync + Abort, P: VertexProgram, G: Gate>(
     graph: &Graph,
     case: Case<'_>,
     gate: &G,
-) -> Result<SyncEnd, Fail> {
+) -> Result<SyncEnd, Fail>
+    requires { IsTrue case.cache → IsTrue (P.meaning program.now).keeps_deltas }
+{
     let cut = cut_by(rt, alloc, graph, case.workers, case.places)?;
     let state = State::start(alloc, program, graph)?;
     let mut steps = counters::<Brand>(alloc, cut.workers() as usize)?;
     let counting = steps.as_mut_slice();
     let end = SyncEngine::run(
-        rt, alloc, program, graph, &cut, state, case.limit, gate, counting,
+        rt, alloc, program, graph, &cut, state, case.cache, case.limit, gate, counting,
     )?;
     for w in 0..steps.len() {
         assert!(rt; steps[w].is_some());
@@ -110,6 +114,7 @@ const PATH: Case<'static> = Case {
     edges: &[(1, 2), (2, 3), (3, 4)],
     workers: 3,
     places: &[0, 1, 2],
+    cache: false,
     limit: 10,
 };
 
@@ -126,6 +131,64 @@ fn a_path_on_three_workers_is_one_component(rt: HostRuntime) -> Result<(), Fail>
         assert!(rt; end.state.messages[v].is_none(), "vertex {v}");
     }
     Ok(())
+}
+
+// Each vertex gathers at its first execution alone. The counters rise by 2 each, as the law of the
+// cached path says.
+#[test]
+fn kept_gathers_spare_all_but_the_first(rt: HostRuntime) -> Result<(), Fail> {
+    let alloc = rt.alloc();
+    let graph = graph_of(&rt, alloc, PATH.edges)?;
+    let case = Case {
+        cache: true,
+        ..PATH
+    };
+    let end = end_of(&rt, alloc, &Components, &graph, case, &NoGate)?;
+    assert_eq!(rt; end.end, End::Quiescent);
+    assert_took(&rt, &end, 3, 7, 6);
+    assert_values(&rt, &end.state, &[1, 1, 1, 1]);
+    for v in 0..end.state.messages.len() {
+        assert!(rt; end.state.messages[v].is_none(), "vertex {v}");
+    }
+    Ok(())
+}
+
+/// Three vertices that lead to each other in a circle, and one edge across.
+const CIRCLE: Case<'static> = Case {
+    edges: &[(1, 2), (1, 3), (2, 3), (3, 1)],
+    workers: 2,
+    places: &[0, 1, 0, 1],
+    cache: false,
+    limit: 100,
+};
+
+/// Ranks a case to the end, of which the number of gathers is known.
+fn assert_ranks<R: Threads + Sync + Abort>(
+    rt: &R,
+    alloc: Global,
+    case: Case<'_>,
+    gathers: u64,
+) -> Result<(), Fail> {
+    let graph = graph_of(rt, alloc, case.edges)?;
+    let end = end_of(rt, alloc, &PageRank::new(0), &graph, case, &NoGate)?;
+    assert_eq!(rt; end.end, End::Quiescent);
+    assert_took(rt, &end, 46, 125, gathers);
+    assert_values(rt, &end.state, &[1163369132, 644431881, 1192198979]);
+    Ok(())
+}
+
+#[test]
+fn ranks_are_gathered_at_each_execution(rt: HostRuntime) -> Result<(), Fail> {
+    assert_ranks(&rt, rt.alloc(), CIRCLE, 171)
+}
+
+#[test]
+fn kept_ranks_are_gathered_once(rt: HostRuntime) -> Result<(), Fail> {
+    let case = Case {
+        cache: true,
+        ..CIRCLE
+    };
+    assert_ranks(&rt, rt.alloc(), case, 4)
 }
 
 #[test]
@@ -194,13 +257,12 @@ impl Gate for Meeting {
 }
 
 // Neither goes on without the other, so both are at work at once.
-#[test]
-fn two_workers_gather_at_once(rt: HostRuntime) -> Result<(), Fail> {
-    let alloc = rt.alloc();
+fn assert_meet<R: Threads + Sync + Abort>(rt: &R, alloc: Global, cache: bool) -> Result<(), Fail> {
     let case = Case {
         edges: &[(1, 2), (3, 4)],
         workers: 2,
         places: &[0, 1],
+        cache,
         limit: 10,
     };
     let gate = Meeting {
@@ -209,14 +271,24 @@ fn two_workers_gather_at_once(rt: HostRuntime) -> Result<(), Fail> {
         first_met: AtomicBool::new(false),
         second_met: AtomicBool::new(false),
     };
-    let graph = graph_of(&rt, alloc, case.edges)?;
-    let end = end_of(&rt, alloc, &Components, &graph, case, &gate)?;
+    let graph = graph_of(rt, alloc, case.edges)?;
+    let end = end_of(rt, alloc, &Components, &graph, case, &gate)?;
     assert!(rt; gate.first_met.load(Ordering::SeqCst));
     assert!(rt; gate.second_met.load(Ordering::SeqCst));
     assert_eq!(rt; end.end, End::Quiescent);
-    assert_took(&rt, &end, 1, 4, 4);
-    assert_values(&rt, &end.state, &[1, 1, 3, 3]);
+    assert_took(rt, &end, 1, 4, 4);
+    assert_values(rt, &end.state, &[1, 1, 3, 3]);
     Ok(())
+}
+
+#[test]
+fn two_workers_gather_at_once(rt: HostRuntime) -> Result<(), Fail> {
+    assert_meet(&rt, rt.alloc(), false)
+}
+
+#[test]
+fn two_workers_gather_at_once_where_gathers_are_kept(rt: HostRuntime) -> Result<(), Fail> {
+    assert_meet(&rt, rt.alloc(), true)
 }
 
 // Both ends change their colours at once, round after round. The second worker has no edge.
@@ -227,6 +299,7 @@ fn two_ends_never_agree_on_their_colours(rt: HostRuntime) -> Result<(), Fail> {
         edges: &[(1, 2)],
         workers: 2,
         places: &[0],
+        cache: false,
         limit: 3,
     };
     let graph = graph_of(&rt, alloc, case.edges)?;
@@ -244,6 +317,7 @@ const NO_EDGES: Case<'static> = Case {
     edges: &[],
     workers: 2,
     places: &[],
+    cache: false,
     limit: 10,
 };
 

@@ -1,14 +1,14 @@
 use Rattle.std.proofs.Common.{◌≡◌, ◌≢◌, ℕ, ◌<◌, Option, List, length, get_or, sym, subst, ◌∙◌, ap, arith}
 use Rattle.std.specs.Prelude.{All, AllPairs}
 use Rattle.std.proofs.lemmas.List.{with_items_is}
-use Rattle.pg_apply_scatter.specs.Delivering.{AreCombined}
+use Rattle.pg_apply_scatter.specs.Delivering.{AreCombined, ArePosted}
 use Rattle.pg_law.specs.declared.values.Datum.{Datum}
 use Rattle.pg_cut.specs.ByWorker.{lists_in}
 use Rattle.pg_apply_scatter.specs.Pushing.{table_at, ArePushed}
 use Rattle.pg_apply_scatter.specs.Sending.{IsSentIn}
 use Rattle.pg_sync.specs.declared.worker.Scattering.{Scattering}
 use Rattle.pg_sync.specs.Phases.{HasScattered}
-use Rattle.pg_sync.proofs.Halving.{firsts_apart, firsts_below, data_apart, readable_pushed, carries_own, state_fit, messages_written, lists_own, holds_round, on_ok_then}
+use Rattle.pg_sync.proofs.Halving.{firsts_apart, firsts_below, data_apart, readable_pushed, carries_own, state_fit, messages_written, lists_own, holds_round, cells_told, on_ok_then}
 use Rattle.pg_sync.proofs.half.scatter_part.Goals as goal
 
 pub write-requires-clause-apart : goal.write-requires-clause-apart
@@ -58,6 +58,15 @@ returns-clause-held g c = on_ok_then c.deliver.result (AreCombined (g.P.VertexPr
     let Combined : List (Option ℕ) → Type 0 = λ ms. AreCombined (g.P.VertexProgram.meaning c.args.program.now) (lists_in c.in_ok-lists.lists.items) ms c.deliver.new.messages in
     let after : AreCombined (g.P.VertexProgram.meaning c.args.program.now) (lists_in c.in_ok-lists.lists.items) c.write.new.self.messages.items c.deliver.new.messages = subst Combined c.as_mut_slice-messages.ensures.value combined in
     rw whole (holds_round (g.P.VertexProgram.meaning c.args.program.now) c.laws_of.ensures c.args.graph.now c.vertices.ensures.graph c.args._cut.now c.requires.cut s c.args.workers.now c.args.mirrors.now c.args.masters.now held c.args.applied.now applies c.write.new.self c.write.ensures c.requires.carries c.push_mirrors.new.mirrors pushed c.scatter_phase.new.scatterings c.in_ok-lists.lists.items c.scatter_phase.auto.scatterings c.in_ok-lists.ensures.sent scattered c.sent_of.new.workers c.deliver.new.messages c.in_ok-lists.ensures.stores after count)) c.deliver.ensures.messages
+
+pub returns-clause-caches : goal.returns-clause-caches
+returns-clause-caches g c = on_ok_then c.deliver.result (ArePosted (g.P.VertexProgram.meaning c.args.program.now) (lists_in c.in_ok-lists.lists.items) c.args.cells.now c.deliver.new.cells) _ (λ posts s held applies deltas.
+    let Pushed : List (ℕ × Datum) → Type 0 = λ ms. ArePushed c.args.mirrors.now c.push_mirrors.new.mirrors ms in
+    let pushed = subst Pushed (c.as_slice.ensures.value ∙ c.in_ok-pairs.ensures) c.push_mirrors.ensures in
+    let scattered = λ (w : ℕ) (d : Scattering g.row.P-Acc.Denot) (h : w < length c.args.workers.now). (let By : List (Option g.row.P-Carry.Denot) → Type 0 = λ cs. HasScattered (g.P.VertexProgram.meaning c.args.program.now) c.args.graph.now (table_at c.push_mirrors.new.mirrors w) cs (get_or c.args.workers.now w d) (get_or c.scatter_phase.new.scatterings w d) in
+    subst By c.as_slice-2.ensures.value (c.scatter_phase.ensures w d h)) in
+    cells_told (g.P.VertexProgram.meaning c.args.program.now) c.laws_of.ensures c.args.graph.now c.vertices.ensures.graph c.args._cut.now c.requires.cut s c.args.workers.now c.args.mirrors.now c.args.masters.now held c.args.applied.now applies c.write.new.self c.write.ensures c.requires.carries c.push_mirrors.new.mirrors pushed c.scatter_phase.new.scatterings c.in_ok-lists.lists.items c.scatter_phase.auto.scatterings c.in_ok-lists.ensures.sent scattered
+    (c.laws_of.ensures.deltas deltas) c.args.cells.now c.deliver.new.cells c.requires.cells posts) c.deliver.ensures.cells
 
 pub returns-clause-carries : goal.returns-clause-carries
 returns-clause-carries g c = on_ok_then c.deliver.result _ _ (λ combined. omega (arith, c.write.ensures.carry_count, c.requires.carries)) c.deliver.ensures.messages

@@ -11,7 +11,7 @@ abbrev pub invariant-loop-round : goal.invariant-loop-round
 invariant-loop-round g l = let p = g.P.VertexProgram.meaning l.program in
     record {
       going : (s : Configuration) → IsHeld p l.graph l.cut s l.initial.workers l.initial.mirrors l.initial.masters.values.items l.initial.masters.messages.items
-          → IsGoing p l.graph l.cut s l.limit l.round l.executions l.gathers l.workers l.mirrors l.masters.values.items l.masters.messages.items (counters_of l.initial.seats) (counters_of l.seats);
+          → IsGoing p l.graph l.cut l.cache s l.limit l.round l.executions l.gathers l.workers l.mirrors l.masters.values.items l.masters.messages.items l.kept (counters_of l.initial.seats) (counters_of l.seats);
       carries : length l.masters.carries.items ≡ length l.graph.ids;
       seats : length l.seats ≡ l.cut.workers;
       present : All (λ seat. IsSome seat.0) l.seats;
