@@ -44,3 +44,7 @@ pub mod Staled
 pub mod Entered
 pub mod Carried
 pub mod Chosen
+pub mod Firsts
+pub mod Left
+pub mod Seen
+pub mod Closed

@@ -72,7 +72,7 @@ give_keeps g fuel sig w a mine h = record {
 }
 
 -- the last entry after one more
-last_from-append : (k last : ℕ) (journal : List JournalEntry) (y : JournalEntry) (u : ℕ) → last_from k last (journal ++ y ∷ []) u ≡ cond (y.vertex == u) (k + length journal + 1) (last_from k last journal u)
+pub last_from-append : (k last : ℕ) (journal : List JournalEntry) (y : JournalEntry) (u : ℕ) → last_from k last (journal ++ y ∷ []) u ≡ cond (y.vertex == u) (k + length journal + 1) (last_from k last journal u)
 last_from-append k last [] y u = grind arith
 last_from-append k last (x ∷ xs) y u = grind (arith, last_from-append (k + 1) (cond (x.vertex == u) (k + 1) last) xs y u)
 

@@ -27,3 +27,5 @@ pub mod Opened
 pub mod Carrying
 pub mod Steps
 pub mod Tables
+pub mod Least
+pub mod Closing

@@ -6,18 +6,25 @@ pub mod act;
 pub mod actor;
 pub mod board;
 mod claiming;
+mod closing;
 mod committing;
 mod ends;
 pub mod finding;
 pub mod fork;
 pub mod laws;
 mod leaving;
+mod messages;
 mod mirrors;
 mod opening;
 mod pinning;
+pub mod ranking;
+pub mod room;
 pub mod seat;
+mod signalled;
 mod stepping;
 pub mod table;
+#[cfg(test)]
+mod table_tests;
 #[cfg(test)]
 mod tests;
 mod turning;

@@ -1,34 +1,50 @@
 //! The table at which actors share the forks of a graph.
-ghost use Rattle.std.specs.Prelude.{◌≡◌, ◌<◌, length, is_some, MatchOption, IsNone, IfOk};
+ghost use Rattle.std.specs.Prelude.{◌≡◌, ◌<◌, length, is_some, MatchOption, IsNone, IsSome, IfSome, IfOk};
 ghost use Rattle.pg_law.specs.Configuration.{IsFit};
-ghost use Rattle.pg_cut.specs.Cut.{IsCutOf};
+ghost use Rattle.pg_law.specs.Journal.{IsLegal};
+ghost use Rattle.pg_cut.specs.Cut.{IsCutOf, Division};
 ghost use Rattle.pg_meals.specs.Steps.{IsWithin, MakesOn, RefusesOn};
 ghost use Rattle.pg_meals.specs.Opened.{cells_in, IsOpened};
-ghost use Rattle.pg_meals.specs.Tables.{AreCaches, IsSameTable};
+ghost use Rattle.pg_meals.specs.Tables.{AreCaches, IsSameTable, IsQuietTable, IsFirstOf};
+ghost use Rattle.pg_meals.specs.Tables.{state_of};
+ghost use Rattle.pg_meals.specs.Closing.{AllFree, OneBusy, AreLeft};
 
 use crate::act::{Act, Outcome};
 use crate::board::Board;
+use crate::closing::{cells_left, state_left};
+use crate::room::Room;
 use pg_cut::Cut;
 use pg_delta::CacheCell;
 use pg_graph::Graph;
-use pg_law::{State, VertexProgram, laws_of};
+use pg_law::{JournalEntry, State, VertexProgram, laws_of};
 use std::alloc::{AllocError, Global};
 use std::marker::Model;
 
 /// A board over a graph for one program, whose core keeps its promise.
 ///
-/// `opening` is the state at the start, of which the journal speaks.
+/// `opening` is the state at the start, of which the journal speaks. In its lists, and in `room`, stands
+/// what the table gives back when it is closed.
 #[derive(Drop)]
 pub struct MealTable<'g, P: VertexProgram> {
     program: &'g P,
     graph: &'g Graph,
     opening: State,
     board: Board<P::Acc>,
+    room: Room<P::Acc>,
+}
+
+/// What a table leaves: the state after its journal, the journal, and the cells where it had caches.
+#[derive(Drop)]
+pub struct Closed<A> {
+    pub state: State,
+    pub journal: Vec<JournalEntry>,
+    pub caches: Option<Vec<CacheCell<A>>>,
 }
 
 impl<'g, P: VertexProgram> Model for MealTable<'g, P> {
     ghost use Rattle.pg_meals.specs.Tables.{Table};
     ghost use Rattle.pg_meals.specs.Carrying.{IsKept};
+    ghost use Rattle.pg_meals.specs.Closing.{HasRoom};
 
     ghost Value = { Table P P.Acc };
 
@@ -39,11 +55,13 @@ impl<'g, P: VertexProgram> Model for MealTable<'g, P> {
       board = t.board;
     } };
 
-    ghost invariant = { λ t. IsKept (P.meaning t.program.now) t.graph.now t.opening t.board };
+    ghost invariant = { λ t. IsKept (P.meaning t.program.now) t.graph.now t.opening t.board
+        × HasRoom t.graph.now t.board.caches t.room };
 }
 
 impl<'g, P: VertexProgram> MealTable<'g, P> {
-    /// The table at the start. It takes the room of a journal of `fuel` entries.
+    /// The table at the start. It takes the room of a journal of `fuel` entries, and of what it gives
+    /// back when it is closed.
     pub fn open(
         alloc: Global,
         program: &'g P,
@@ -67,11 +85,13 @@ impl<'g, P: VertexProgram> MealTable<'g, P> {
         laws_of(program);
         let _ = graph.vertices();
         let board = Board::open(alloc, graph, cut, &state, caches, actors, fuel)?;
+        let room = Room::of(alloc, graph, board.caches)?;
         Ok(MealTable {
             program,
             graph,
             opening: state,
             board,
+            room,
         })
     }
 
@@ -87,5 +107,64 @@ impl<'g, P: VertexProgram> MealTable<'g, P> {
     {
         laws_of(self.program);
         self.board.step(self.graph, actor, act)
+    }
+
+    /// The signalled vertex of least rank.
+    ///
+    /// It looks at each vertex and at both ends of each edge, and at the whole journal once for each
+    /// signalled vertex.
+    pub fn least_signalled(&self) -> Option<u32>
+        ensures { MatchOption result
+            (IsQuietTable (P.meaning self.now.program) self.now)
+            (IsFirstOf (P.meaning self.now.program) self.now) }
+    {
+        laws_of(self.program);
+        match self.board.least_signalled(self.graph) {
+            Some(first) => Some(first.vertex),
+            None => None,
+        }
+    }
+
+    /// Ends the table, and gives back what it leaves, where no actor has a vertex in hand.
+    ///
+    /// Where one has, the table is given up. The cell of a vertex for which a delta waits on a fork is
+    /// cleared, and every other cell is as it stood. It takes no memory.
+    pub fn close(self) -> Option<Closed<P::Acc>>
+        ensures busy { IsNone result → OneBusy self.entry.board.actors.items }
+        ensures free { IsSome result → AllFree self.entry.board.actors.items }
+        ensures state { IfSome result (λ closed.
+            closed.state ≡ state_of (P.meaning self.entry.program) self.entry) }
+        ensures fit { IfSome result (λ closed.
+            IsFit (P.meaning self.entry.program) self.entry.graph closed.state) }
+        ensures journal { IfSome result (λ closed.
+            closed.journal.items ≡ self.entry.board.journal.items) }
+        ensures legal { IfSome result (λ closed.
+            IsLegal (P.meaning self.entry.program) self.entry.graph self.entry.opening
+            closed.journal.items) }
+        ensures cells { IfSome result (λ closed.
+            AreLeft self.entry.graph self.entry.board closed.caches) }
+        ensures caches { IfSome result (λ closed. (cut : Division)
+            → AreCaches (P.meaning self.entry.program) self.entry.graph cut
+            closed.state closed.caches) }
+    {
+        laws_of(self.program);
+        if !self.board.is_free() {
+            return None;
+        }
+        let MealTable {
+            program,
+            graph,
+            opening,
+            mut board,
+            room,
+        } = self;
+        let Room { words, cells } = room;
+        let state = state_left(program, graph, &board, opening, words);
+        let caches = cells_left(graph, &mut board, cells);
+        Some(Closed {
+            state,
+            journal: board.journal,
+            caches,
+        })
     }
 }

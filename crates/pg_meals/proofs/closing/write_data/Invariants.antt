@@ -1,0 +1,9 @@
+use Rattle.std.proofs.Common.{length}
+use Rattle.pg_law.specs.Values.{two}
+use Rattle.pg_meals.specs.Entries.{seat_at}
+use Rattle.pg_meals.proofs.Left.{IsFilled}
+use Rattle.pg_meals.proofs.closing.write_data.Given as goal
+
+-- the data so far are written
+abbrev pub invariant-loop-v : goal.invariant-loop-v
+invariant-loop-v g l = IsFilled (λ v. (seat_at (two 0 0) l.seats v).datum) l.v (length l.seats) l.values.items
