@@ -77,6 +77,7 @@ pub fn job(engine: Engine, program: ProgramName) -> RunJob {
         format,
         workers: 1,
         kind: CutKind::Random { seed: 0 },
+        cache: false,
     }
 }
 

@@ -23,6 +23,7 @@ row option.Fuel = 5
 row option.Serial = 6
 row option.Source = 7
 row option.Tolerance = 8
+row option.Cache = 9
 
 -- an option by its number
 abbrev pub at_row : ℕ → OptionName
@@ -34,7 +35,8 @@ at_row (suc (suc (suc (suc zero)))) = option.Rounds
 at_row (suc (suc (suc (suc (suc zero))))) = option.Fuel
 at_row (suc (suc (suc (suc (suc (suc zero)))))) = option.Serial
 at_row (suc (suc (suc (suc (suc (suc (suc zero))))))) = option.Source
-at_row _ = option.Tolerance
+at_row (suc (suc (suc (suc (suc (suc (suc (suc zero)))))))) = option.Tolerance
+at_row _ = option.Cache
 
 pub at_row-row : (option : OptionName) → at_row (row option) ≡ option
 at_row-row option.Format = refl
@@ -46,6 +48,7 @@ at_row-row option.Fuel = refl
 at_row-row option.Serial = refl
 at_row-row option.Source = refl
 at_row-row option.Tolerance = refl
+at_row-row option.Cache = refl
 
 -- no option stands at first
 pub stands-none : (option : OptionName) → stands no_choices option ≡ false
@@ -58,6 +61,7 @@ stands-none option.Fuel = refl
 stands-none option.Serial = refl
 stands-none option.Source = refl
 stands-none option.Tolerance = refl
+stands-none option.Cache = refl
 
 -- what an option sets: its value, or itself
 pub data Value : Type 0 where
@@ -70,6 +74,7 @@ pub data Value : Type 0 where
   of_serial : Value
   of_source : ℕ → Value
   of_tolerance : ℕ → Value
+  of_cache : Value
 
 -- the option of a value
 abbrev pub option_of : Value → OptionName
@@ -82,6 +87,7 @@ option_of (of_fuel x) = option.Fuel
 option_of of_serial = option.Serial
 option_of (of_source x) = option.Source
 option_of (of_tolerance x) = option.Tolerance
+option_of of_cache = option.Cache
 
 -- the choices with a value more
 abbrev pub put : Choices → Value → Choices
@@ -94,6 +100,7 @@ put c (of_fuel x) = record c { fuel = Some x }
 put c of_serial = record c { serial = true }
 put c (of_source x) = record c { source = Some x }
 put c (of_tolerance x) = record c { tolerance = Some x }
+put c of_cache = record c { cache = true }
 
 -- that option stands then, and what stood before
 stands-put : (c : Choices) (value : Value) (other : OptionName)
@@ -107,6 +114,7 @@ stands-put c (of_fuel x) option.Format = refl
 stands-put c of_serial option.Format = refl
 stands-put c (of_source x) option.Format = refl
 stands-put c (of_tolerance x) option.Format = refl
+stands-put c of_cache option.Format = refl
 stands-put c value other = refl
 
 -- values of two options may change places
@@ -121,6 +129,7 @@ put-comm c (of_fuel x) (of_fuel y) apart = absurd (apart refl)
 put-comm c of_serial of_serial apart = refl
 put-comm c (of_source x) (of_source y) apart = absurd (apart refl)
 put-comm c (of_tolerance x) (of_tolerance y) apart = absurd (apart refl)
+put-comm c of_cache of_cache apart = refl
 put-comm c value other apart = refl
 
 -- the one choice
@@ -167,10 +176,13 @@ with_value-IsPut c d option.Source word e =
     read-IsPut of_source (number_of (2 ^ 32 - 1) word) c d option.Source word (λ _. refl) (λ _. refl) e
 with_value-IsPut c d option.Tolerance word e =
     read-IsPut of_tolerance (number_of (2 ^ 64 - 1) word) c d option.Tolerance word (λ _. refl) (λ _. refl) e
+with_value-IsPut c d option.Cache word e = cc
 
 with_flag-IsPut : (c d : Choices) (option : OptionName) → with_flag c option ≡ Some d → IsPut c option None d
 with_flag-IsPut c d option.Serial e =
     record { value = of_serial; own = refl; is = Some-is (record c { serial = true }) d e; again = λ _. refl }
+with_flag-IsPut c d option.Cache e =
+    record { value = of_cache; own = refl; is = Some-is (record c { cache = true }) d e; again = λ _. refl }
 with_flag-IsPut c d _ e = cc
 
 pub with_setting-IsPut : (c d : Choices) (option : OptionName) (word : Option Word)

@@ -89,6 +89,7 @@ value_ends head c option.Fuel waits = then_ends _ _ (codes "0") refl (options_en
 value_ends head c option.Serial waits = cc
 value_ends head c option.Source waits = then_ends _ _ (codes "0") refl (options_end head _)
 value_ends head c option.Tolerance waits = then_ends _ _ (codes "0") refl (options_end head _)
+value_ends head c option.Cache waits = cc
 
 -- words before the options can be added, a row for each lead
 lead_ends : (lead : Lead) → CanEnd (reading.Lead lead)

@@ -1,4 +1,4 @@
--- Each word that may follow is one more behind what stands, and there are twenty-two at most.
+-- Each word that may follow is one more behind what stands, and there are twenty-four at most.
 use Rattle.std.proofs.Common.{◌≡◌, ℕ, ◌+◌, ◌*◌, ◌<◌, ◌≤◌, List, [], ◌∷◌, length, Bool, true, false, ◌||◌, cond, Option, Some, None, Contains, count_by, refl, sym, ap, ◌∙◌, eqb, arith, zero, suc, lit<, lit≤, subst}
 use Rattle.std.proofs.lemmas.Bool.{eq-eqb}
 use Rattle.std.specs.List.{slice_index_or}
@@ -35,6 +35,7 @@ options-row option.Fuel = (5, lit< tt, refl)
 options-row option.Serial = (6, lit< tt, refl)
 options-row option.Source = (7, lit< tt, refl)
 options-row option.Tolerance = (8, lit< tt, refl)
+options-row option.Cache = (9, lit< tt, refl)
 
 module _ {X : Type 0} (p q : X → Bool) (keeps : (x : X) → p x ≡ true → q x ≡ true) where
   one-keeps : (b c : Bool) → (b ≡ true → c ≡ true) → cond b 1 0 ≤ cond c 1 0

@@ -55,11 +55,13 @@ with_value-IsWithin c d option.Workers word within e =
     let row = mapped (λ x. record c { workers = Some x }) (number_from 1 64 word) d e in
     subst IsWithin row.2 (number_from-within 1 64 word row.0 row.1)
 with_value-IsWithin c d option.Serial word within e = cc
+with_value-IsWithin c d option.Cache word within e = cc
 with_value-IsWithin c d _ word within e = leaves _ _ c d (λ _. refl) within e
 
 with_setting-IsWithin : (c d : Choices) (option : OptionName) (word : Option Word) → IsWithin c
     → with_setting c option word ≡ Some d → IsWithin d
 with_setting-IsWithin c d option.Serial None within e = leaves {X = Unit {0}} (λ _. record c { serial = true }) (Some tt) c d (λ _. refl) within e
+with_setting-IsWithin c d option.Cache None within e = leaves {X = Unit {0}} (λ _. record c { cache = true }) (Some tt) c d (λ _. refl) within e
 with_setting-IsWithin c d _ None within e = cc
 with_setting-IsWithin c d option (Some word) within e = with_value-IsWithin c d option word within e
 

@@ -66,6 +66,7 @@ option_word-named option.Fuel = refl
 option_word-named option.Serial = refl
 option_word-named option.Source = refl
 option_word-named option.Tolerance = refl
+option_word-named option.Cache = refl
 
 -- the value behind a map of an option
 pub mapped : {A B : Type 0} (f : A → B) (o : Option A) (y : B)

@@ -167,6 +167,7 @@ IsJob-from_reading words job e = lead_job leads.Start [] words job tt e
 waits_for : (c : Choices) (option : OptionName) (word : Word) (d : Choices) → with_value c option word ≡ Some d
     → with_flag c option ≡ None
 waits_for c option.Serial word d e = cc
+waits_for c option.Cache word d e = cc
 waits_for c _ word d e = refl
 
 -- a setting that may stand is read, and then the words behind it

@@ -77,6 +77,7 @@ options =
     ∷ option.Serial
     ∷ option.Source
     ∷ option.Tolerance
+    ∷ option.Cache
     ∷ []
 
 abbrev pub option_word : OptionName → Word
@@ -89,6 +90,7 @@ option_word option.Fuel = codes "--fuel"
 option_word option.Serial = codes "--serial"
 option_word option.Source = codes "--source"
 option_word option.Tolerance = codes "--tolerance"
+option_word option.Cache = codes "--cache"
 
 -- what the word names among these, or None
 abbrev pub named : {X : Type 0} → (X → Word) → List X → Word → Option X
@@ -115,3 +117,8 @@ has_source _ = false
 abbrev pub has_tolerance : ProgramWord → Bool
 has_tolerance program.Rank = true
 has_tolerance _ = false
+
+-- the programs whose gathers can be kept
+abbrev pub has_cache : ProgramWord → Bool
+has_cache program.Colour = false
+has_cache _ = true

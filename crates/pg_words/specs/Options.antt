@@ -1,9 +1,9 @@
 -- The options: where each may stand, what its value may be, and what holds where it doesn't stand.
-use Rattle.std.specs.Prelude.{ℕ, ◌^◌, ◌-◌, nat_le, Bool, true, false, Option, Some, None, is_some, unwrap_or, option_and_then, if◌then◌else◌}
+use Rattle.std.specs.Prelude.{ℕ, ◌^◌, ◌-◌, nat_le, Bool, true, false, ◌&&◌, Option, Some, None, is_some, unwrap_or, option_and_then, if◌then◌else◌}
 use Rattle.std.specs.Option.{option_map}
 use Rattle.pg_base.specs.Numbers.{number_of}
 use Rattle.pg_readers.specs.declared.line.Format.TheVariants.{Snap}
-use Rattle.pg_words.specs.Names.{Word, named, formats, format_word, cuts, cut_word, has_rounds, has_fuel, has_source, has_tolerance}
+use Rattle.pg_words.specs.Names.{Word, named, formats, format_word, cuts, cut_word, has_rounds, has_fuel, has_source, has_tolerance, has_cache}
 use Rattle.pg_words.specs.declared.choices.Choices.{Choices}
 use Rattle.pg_words.specs.declared.head.Head.{Head}
 use Rattle.pg_words.specs.declared.head.Head.TheVariants as heads
@@ -37,6 +37,12 @@ run_takes engine program option.Fuel = has_fuel engine
 run_takes engine program option.Serial = has_fuel engine
 run_takes engine program option.Source = has_source program
 run_takes engine program option.Tolerance = has_tolerance program
+run_takes engine program option.Cache = has_rounds engine && has_cache program
+
+-- where an option may stand behind `check`: where it may behind the run, but gathers aren't kept
+abbrev pub check_takes : EngineName → ProgramWord → OptionName → Bool
+check_takes engine program option.Cache = false
+check_takes engine program option = run_takes engine program option
 
 -- where an option may stand behind `cut`
 abbrev pub cut_takes : OptionName → Bool
@@ -46,10 +52,10 @@ cut_takes option.Cut = true
 cut_takes option.Seed = true
 cut_takes _ = false
 
--- where an option may stand: a check takes what its run takes
+-- where an option may stand
 abbrev pub takes : Head → OptionName → Bool
 takes (heads.Run engine program) option = run_takes engine program option
-takes (heads.Check engine program) option = run_takes engine program option
+takes (heads.Check engine program) option = check_takes engine program option
 takes heads.Cut option = cut_takes option
 
 -- no option stands
@@ -64,6 +70,7 @@ no_choices = record {
   serial = false;
   source = None;
   tolerance = None;
+  cache = false;
 }
 
 -- whether an option stands
@@ -77,10 +84,12 @@ stands c option.Fuel = is_some c.fuel
 stands c option.Serial = c.serial
 stands c option.Source = is_some c.source
 stands c option.Tolerance = is_some c.tolerance
+stands c option.Cache = c.cache
 
 -- the choices with an option more that stands alone, or None where a value is to follow it
 abbrev pub with_flag : Choices → OptionName → Option Choices
 with_flag c option.Serial = Some (record c { serial = true })
+with_flag c option.Cache = Some (record c { cache = true })
 with_flag c _ = None
 
 -- the number that a word writes, where it is `least` to `most`
@@ -107,6 +116,7 @@ with_value c option.Source word =
     option_map (λ x. record c { source = Some x }) (number_of (2 ^ 32 - 1) word)
 with_value c option.Tolerance word =
     option_map (λ x. record c { tolerance = Some x }) (number_of (2 ^ 64 - 1) word)
+with_value c option.Cache word = None
 
 -- the engine with its limit
 abbrev pub engine_of : EngineName → Choices → Engine
@@ -144,6 +154,7 @@ run_job engine program c = option_map (λ named. record {
   format = unwrap_or c.format Snap;
   workers = unwrap_or c.workers 1;
   kind = cut_of c;
+  cache = c.cache;
 }) (program_of program c)
 
 -- the cut by itself

@@ -22,6 +22,7 @@ pub struct Choices {
     pub serial: bool,
     pub source: Option<u32>,
     pub tolerance: Option<u64>,
+    pub cache: bool,
 }
 
 impl Choices {
@@ -41,6 +42,7 @@ impl Choices {
             serial: false,
             source: None,
             tolerance: None,
+            cache: false,
         }
     }
 
@@ -58,6 +60,7 @@ impl Choices {
             OptionName::Serial => self.serial,
             OptionName::Source => self.source.is_some(),
             OptionName::Tolerance => self.tolerance.is_some(),
+            OptionName::Cache => self.cache,
         }
     }
 
@@ -68,6 +71,10 @@ impl Choices {
         match option {
             OptionName::Serial => Some(Choices {
                 serial: true,
+                ..self
+            }),
+            OptionName::Cache => Some(Choices {
+                cache: true,
                 ..self
             }),
             _ => None,
@@ -89,6 +96,7 @@ impl Choices {
             OptionName::Serial => return None,
             OptionName::Source => more.source = Some(read_u32(word)?),
             OptionName::Tolerance => more.tolerance = Some(read_number(word.as_bytes(), u64::MAX)?),
+            OptionName::Cache => return None,
         }
         Some(more)
     }
@@ -159,6 +167,7 @@ impl Choices {
             format: self.format.unwrap_or(Format::Snap),
             workers: self.workers.unwrap_or(1),
             kind: self.cut(),
+            cache: self.cache,
         })
     }
 

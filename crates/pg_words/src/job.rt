@@ -1,6 +1,6 @@
 //! What words can ask for.
 ghost use Rattle.std.specs.Prelude.{◌≡◌};
-ghost use Rattle.pg_words.specs.Programs.{is_wide};
+ghost use Rattle.pg_words.specs.Programs.{is_wide, keeps};
 
 use pg_readers::Format;
 
@@ -33,6 +33,13 @@ impl ProgramName {
     {
         matches!(self, ProgramName::Tree { .. })
     }
+
+    /// Whether its gathers can be kept: its scatters tell how a gather changes.
+    pub fn keeps_gathers(self) -> bool
+        ensures { result ≡ keeps self }
+    {
+        !matches!(self, ProgramName::Colour)
+    }
 }
 
 /// How the edges are placed on the workers.
@@ -49,7 +56,8 @@ pub enum CutKind {
 /// A run of a program on a graph text.
 ///
 /// Where its report is checked, the engine says whose report it is, and with which limit.
-/// `workers` is 1 to 64.
+/// `workers` is 1 to 64. With `cache` the gathers of vertices are kept from one execution to the
+/// next, which rounds of a program do whose scatters tell how a gather changes.
 #[derive(Clone, Copy, Debug, PartialEq, Eq)]
 pub struct RunJob {
     pub engine: Engine,
@@ -57,6 +65,7 @@ pub struct RunJob {
     pub format: Format,
     pub workers: u8,
     pub kind: CutKind,
+    pub cache: bool,
 }
 
 /// A cut of a graph text whose counts are told. `workers` is 1 to 64.

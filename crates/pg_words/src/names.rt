@@ -1,6 +1,6 @@
 //! Words that are names: a row each.
 ghost use Rattle.std.specs.Prelude.{◌≡◌};
-ghost use Rattle.pg_words.specs.Names.{named, engines, engine_word, first_words, first_word, programs, program_word, formats, format_word, cuts, cut_word, options, option_word, has_rounds, has_fuel, has_source, has_tolerance};
+ghost use Rattle.pg_words.specs.Names.{named, engines, engine_word, first_words, first_word, programs, program_word, formats, format_word, cuts, cut_word, options, option_word, has_rounds, has_fuel, has_source, has_tolerance, has_cache};
 
 use pg_readers::Format;
 
@@ -115,6 +115,13 @@ impl ProgramWord {
     {
         matches!(self, ProgramWord::Rank)
     }
+
+    /// Whether its gathers can be kept: what is scattered says how a gather changes.
+    pub fn has_cache(self) -> bool
+        ensures { result ≡ has_cache self }
+    {
+        !matches!(self, ProgramWord::Colour)
+    }
 }
 
 /// A cut by its word.
@@ -154,6 +161,7 @@ pub enum OptionName {
     Serial,
     Source,
     Tolerance,
+    Cache,
 }
 
 impl OptionName {
@@ -179,6 +187,8 @@ impl OptionName {
             Some(OptionName::Source)
         } else if word == "--tolerance" {
             Some(OptionName::Tolerance)
+        } else if word == "--cache" {
+            Some(OptionName::Cache)
         } else {
             None
         }
