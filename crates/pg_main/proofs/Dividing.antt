@@ -1,5 +1,5 @@
 -- The text of a cut that was made.
-use Rattle.std.proofs.Common.{◌≡◌, ℕ, List, ap, ◌∙◌, sym, subst}
+use Rattle.std.proofs.Common.{◌≡◌, ℕ, List, ap, ◌∙◌, subst}
 use Rattle.std.specs.Prelude.{Option}
 use Rattle.pg_base.specs.Writing.{SendsFront}
 use Rattle.pg_graph.specs.Multigraph.{Multigraph}

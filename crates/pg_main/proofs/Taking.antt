@@ -1,5 +1,5 @@
 -- What the counters of the workers take.
-use Rattle.std.proofs.Common.{◌≡◌, ℕ, zero, suc, ◌+◌, ◌==◌, ◌<◌, ◌≤◌, nat_lt, Bool, true, false, List, ◌++◌, length, Option, Some, None, refl, sym, ap, ◌∙◌, subst, ⊎_elim, arith, length-append}
+use Rattle.std.proofs.Common.{◌≡◌, ℕ, zero, suc, ◌==◌, ◌<◌, ◌≤◌, nat_lt, Bool, true, false, List, ◌++◌, length, Option, Some, None, refl, sym, ap, ◌∙◌, subst, ⊎_elim, arith, length-append}
 use Rattle.std.specs.Prelude.{All, IsSome, if◌then◌else◌}
 use Rattle.std.proofs.lemmas.Bool.{eqb-true, eqb-false, ltb-true, ltb-false, cases_lt}
 use Rattle.std.proofs.lemmas.List.{get_or_append_left, get_or-append_right}
@@ -12,7 +12,7 @@ use Rattle.pg_law.specs.Rounds.{Run, rounds}
 use Rattle.pg_law.proofs.Fitting.{round_fits}
 use Rattle.pg_law.proofs.Repeating.{rounds_none, rounds_stop, rounds_go}
 use Rattle.pg_cut.specs.Cut.{Division}
-use Rattle.pg_sync.specs.Counting.{gathers_on, AreCounted}
+use Rattle.pg_sync.specs.Counting.{gathers_by, AreCounted}
 use Rattle.pg_words.specs.declared.job.CutKind.{CutKind}
 use Rattle.pg_words.specs.declared.job.CutKind.TheVariants.{Random, Oblivious, Coordinated}
 use Rattle.pg_main.specs.Cuts.{cut_by}
@@ -62,16 +62,16 @@ module _ (front new back : List (Option ℕ)) (same : length new ≡ length fron
       (λ ge. (let There : Option ℕ → Type 0 = λ o. IsSome o in subst There (sym (behind worker ge)) (present worker (omega (arith, h, length-append new back, length-append front back, same)))))
       (cases_lt worker (length front))
 
-  module _ {Acc Carry : Type 0} (p : Program Acc Carry) (g : Multigraph) (cut : Division) (s : Configuration) (limit : ℕ) (own : length front ≡ cut.workers) (counted : AreCounted p g cut s limit front new) (present : ArePresent (front ++ back)) where
+  module _ {Acc Carry : Type 0} (p : Program Acc Carry) (g : Multigraph) (cut : Division) (cache : Bool) (s : Configuration) (limit : ℕ) (own : length front ≡ cut.workers) (counted : AreCounted p g cut cache s limit front new) (present : ArePresent (front ++ back)) where
     -- and took the gathers of their workers
-    pub take_over : (worker : ℕ) → counter_at (new ++ back) worker ≡ raised_by (if nat_lt worker cut.workers then gathers_on p g cut s limit worker else 0) (counter_at (front ++ back) worker)
+    pub take_over : (worker : ℕ) → counter_at (new ++ back) worker ≡ raised_by (if nat_lt worker cut.workers then gathers_by p g cut cache s limit worker else 0) (counter_at (front ++ back) worker)
     take_over worker = by_test (nat_lt worker cut.workers) refl
       where
-        by_test : (works : Bool) → nat_lt worker cut.workers ≡ works → counter_at (new ++ back) worker ≡ raised_by (if works then gathers_on p g cut s limit worker else 0) (counter_at (front ++ back) worker)
+        by_test : (works : Bool) → nat_lt worker cut.workers ≡ works → counter_at (new ++ back) worker ≡ raised_by (if works then gathers_by p g cut cache s limit worker else 0) (counter_at (front ++ back) worker)
         by_test true is = let lt : worker < length front = omega (arith, own, ltb-true worker cut.workers is) in
             let n = there (counter_at (front ++ back) worker) (present worker (omega (arith, lt, length-append front back))) in
             let before : counter_at front worker ≡ Some n.0 = sym (ahead_old worker lt) ∙ n.1 in
-            ahead worker lt ∙ counted.each worker (omega (arith, lt, own)) n.0 before ∙ sym (ap (raised_by (gathers_on p g cut s limit worker)) n.1)
+            ahead worker lt ∙ counted.each worker (omega (arith, lt, own)) n.0 before ∙ sym (ap (raised_by (gathers_by p g cut cache s limit worker)) n.1)
         by_test false is = let ge : length front ≤ worker = omega (arith, own, ltb-false worker cut.workers is) in
             behind worker ge ∙ sym (raised_none (counter_at (front ++ back) worker))
 

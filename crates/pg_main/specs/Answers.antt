@@ -1,6 +1,6 @@
 -- What writing the report of a run, and judging one, does to the outside and to the counters, and what it
 -- answers.
-use Rattle.std.specs.Prelude.{◌≡◌, ℕ, ◌≤◌, List, [], Option, Some, None, Result, IfSome, IfOk, IfErr, OnOk, OnErr, IsErrOf}
+use Rattle.std.specs.Prelude.{◌≡◌, ℕ, ◌≤◌, Bool, List, [], Option, Some, None, Result, IfSome, IfOk, IfErr, OnOk, OnErr, IsErrOf}
 use Rattle.std.specs.Io.KnownBytes.{append_known}
 use Rattle.pg_base.specs.Faults.{HasRisen}
 use Rattle.pg_base.specs.Writing.{SendsFront}
@@ -20,7 +20,8 @@ use Rattle.pg_law.specs.declared.async_end.AsyncError.TheVariants as async
 use Rattle.pg_words.specs.declared.job.Engine.{Engine}
 use Rattle.pg_words.specs.declared.job.ProgramName.{ProgramName}
 use Rattle.pg_main.specs.Counters.{ArePresent, FirstTakes, Take}
-use Rattle.pg_check.specs.Outcomes.{outcome_of, named_text, HasJournalOf}
+use Rattle.pg_check.specs.Outcomes.{HasJournalOf}
+use Rattle.pg_main.specs.Ways.{left_of, kept_text}
 use Rattle.pg_main.specs.declared.refusal.Refusal.{Refusal}
 use Rattle.pg_main.specs.declared.refusal.Refusal.TheVariants.{Input, NoVertex, WriteFault, Memory}
 
@@ -37,15 +38,15 @@ refusal_of async.WriteFault = WriteFault
 refusal_of async.Memory = Memory
 
 -- the report was appended and each counter took the gathers of its worker; or a front of it was appended
-pub record Reports (name : ProgramName) (engine : Engine) (g : Multigraph) (gathers : ℕ → ℕ)
+pub record Reports (name : ProgramName) (engine : Engine) (kept : Bool) (g : Multigraph) (gathers : ℕ → ℕ)
     (before after : Option (List ℕ)) (faults_before faults_after : ℕ)
     (steps_before steps_after : List (Option ℕ)) (result : Result End Refusal) : Type 0 where
-  pub end : IfOk result (λ end. (outcome_of name engine g).last.end ≡ end)
+  pub end : IfOk result (λ end. (left_of name engine kept g).last.end ≡ end)
   pub journal : OnOk result (HasJournalOf name engine g)
-  pub whole : OnOk result (after ≡ append_known before (named_text name engine g))
+  pub whole : OnOk result (after ≡ append_known before (kept_text name engine kept g))
   pub counted : OnOk result (Take steps_before steps_after gathers)
   pub late : IfErr result IsLate
-  pub front : OnErr result (SendsFront before after (named_text name engine g))
+  pub front : OnErr result (SendsFront before after (kept_text name engine kept g))
   pub fault : IsErrOf result WriteFault → HasRisen faults_before faults_after
   pub later : faults_before ≤ faults_after
   pub present : ArePresent steps_after

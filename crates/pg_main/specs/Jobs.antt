@@ -20,14 +20,15 @@ use Rattle.pg_main.specs.Counters.{Take}
 use Rattle.pg_main.specs.Cuts.{job_gathers}
 use Rattle.pg_main.specs.CutTexts.{job_cut_text}
 use Rattle.pg_main.specs.Meanings.{Means}
-use Rattle.pg_check.specs.Outcomes.{Outcome, outcome_of, HasJournalOf, named_text}
+use Rattle.pg_check.specs.Outcomes.{Outcome, HasJournalOf}
+use Rattle.pg_main.specs.Ways.{left_of, kept_text, is_kept}
 
 -- what a job leaves on a graph, and its report
 abbrev pub job_outcome : RunJob → Multigraph → Outcome
-job_outcome job g = outcome_of job.program job.engine g
+job_outcome job g = left_of job.program job.engine (is_kept job) g
 
 abbrev pub job_text : RunJob → Multigraph → List ℕ
-job_text job g = named_text job.program job.engine g
+job_text job g = kept_text job.program job.engine (is_kept job) g
 
 -- the id at which the paths of the program begin, where it has one
 abbrev pub source_of : ProgramName → Option ℕ

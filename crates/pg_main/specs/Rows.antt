@@ -1,5 +1,5 @@
 -- Small texts with the graphs and reports that the definitions give them.
-use Rattle.std.specs.Prelude.{ℕ, List, [], ◌∷◌, codes}
+use Rattle.std.specs.Prelude.{ℕ, false, List, [], ◌∷◌, codes}
 use Rattle.pg_graph.specs.declared.edge.Edge.{Edge}
 use Rattle.pg_graph.specs.Multigraph.{Multigraph, multigraph}
 use Rattle.pg_readers.specs.declared.line.Format.TheVariants.{Snap}
@@ -19,6 +19,7 @@ plain_job = record {
   format = Snap;
   workers = 1;
   kind = Random 0;
+  cache = false;
 }
 
 -- a path of four vertices

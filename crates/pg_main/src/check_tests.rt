@@ -1,7 +1,7 @@
 //! Whole checks of reports behind their texts.
 
 use crate::status::Status;
-use crate::tests::{Given, Outcome, PATH, calm, outcome_of};
+use crate::tests::{Given, Outcome, PATH, calm, outcome_of, ran, refuses};
 use pg_input::Which;
 use pg_readers::BadLine;
 use std::alloc::{AllocError, Global};
@@ -59,209 +59,234 @@ fn the_report_that_was_written_is_confirmed(rt: HostRuntime) -> Result<(), Fail>
     Ok(())
 }
 
-#[test]
-fn another_report_is_rejected_at_its_first_wrong_line(rt: HostRuntime) -> Result<(), Fail> {
-    let rows: [(&str, u64, &str); 7] = [
-        ("", 1, "rejected at line 1\n"),
-        ("# pgreport 1 sync components\n", 1, "rejected at line 1\n"),
-        (
-            "# pgreport 1 async components\n# vertices 4 edges 3 loops 0\n@1\t1\n@3\t1\n@2\t1\n@4\t1\n1\t1\n2\t1\n3\t1\n4\t1\n# quiescent executions 4 gathers 6\n",
-            4,
-            "rejected at line 4\n",
-        ),
-        (
-            "# pgreport 1 async components\n# vertices 4 edges 3 loops 0\n@1\t1\n@2\t1\n@3\t1\n1\t1\n2\t1\n3\t1\n4\t4\n?4\t1\n# spent executions 3 gathers 5\n",
-            6,
-            "rejected at line 6\n",
-        ),
-        (
-            "# pgreport 1 async components\n# vertices 4 edges 3 loops 0\n@1\t1\n@2\t1\n@3\t1\n@4\t1\n1\t1\n2\t1\n3\t1\n4\t1\n",
-            11,
-            "rejected at line 11\n",
-        ),
-        (
-            "# pgreport 1 async components\n# vertices 4 edges 3 loops 0\n@1\t1\n@2\t1\n@3\t1\n@4\t1\n1\t1\n2\t1\n3\t1\n4\t1\n# quiescent executions 4 gathers 6",
-            11,
-            "rejected at line 11\n",
-        ),
-        (
-            "# pgreport 1 async components\n# vertices 4 edges 3 loops 0\n@1\t1\n@2\t1\n@3\t1\n@4\t1\n1\t1\n2\t1\n3\t1\n4\t1\n# quiescent executions 4 gathers 6\n\n",
-            12,
-            "rejected at line 12\n",
-        ),
-    ];
-    for (report, line, told) in rows {
-        let bytes = behind_the_path(rt.alloc(), report)?;
-        let outcome = checked(&rt, rt.alloc(), &ASYNC, bytes.as_slice())?;
-        assert_eq!(rt; outcome.status, Status::Rejected { line }, "{report}");
-        assert_eq!(rt; outcome.status.code(), 10, "{report}");
-        assert!(rt; outcome.out.bytes().is_empty(), "{report}");
-        assert_eq!(rt; outcome.err.bytes(), told.as_bytes(), "{report}");
-    }
+/// A report behind the path is rejected at this line.
+fn rejects<R: Threads + Sync + Abort>(
+    rt: &R,
+    alloc: Global,
+    report: &str,
+    line: u64,
+) -> Result<(), Fail> {
+    let bytes = behind_the_path(alloc, report)?;
+    let told = format!(in alloc; "rejected at line {line}\n")?;
+    let outcome = checked(rt, alloc, &ASYNC, bytes.as_slice())?;
+    assert_eq!(rt; outcome.status, Status::Rejected { line }, "{report}");
+    assert_eq!(rt; outcome.status.code(), 10, "{report}");
+    assert!(rt; outcome.out.bytes().is_empty(), "{report}");
+    assert_eq!(rt; outcome.err.bytes(), told.as_bytes(), "{report}");
     Ok(())
 }
 
-/// The examples of the documents, each with its format and the id at which paths begin.
-const EXAMPLES: [(&str, &str, &str); 4] = [
-    (PATH, "snap", "1"),
-    (
-        "# Directed graph: comments.txt\n# FromNodeId\tToNodeId\n30\t10\r\n10\t20\r\n10\t20\r\n40\t40\r\n",
-        "snap",
-        "10",
-    ),
-    ("1 2 5\n3\t1\t1\n2 3\n", "tsv", "1"),
-    ("1 2 2 3\n2 0\n3 1 1\n", "adj", "1"),
-];
+#[test]
+fn another_report_is_rejected_at_its_first_wrong_line(rt: HostRuntime) -> Result<(), Fail> {
+    let alloc = rt.alloc();
+    rejects(&rt, alloc, "", 1)?;
+    rejects(&rt, alloc, "# pgreport 1 sync components\n", 1)?;
+    rejects(
+        &rt,
+        alloc,
+        "# pgreport 1 async components\n# vertices 4 edges 3 loops 0\n@1\t1\n@3\t1\n@2\t1\n@4\t1\n1\t1\n2\t1\n3\t1\n4\t1\n# quiescent executions 4 gathers 6\n",
+        4,
+    )?;
+    rejects(
+        &rt,
+        alloc,
+        "# pgreport 1 async components\n# vertices 4 edges 3 loops 0\n@1\t1\n@2\t1\n@3\t1\n1\t1\n2\t1\n3\t1\n4\t4\n?4\t1\n# spent executions 3 gathers 5\n",
+        6,
+    )?;
+    rejects(
+        &rt,
+        alloc,
+        "# pgreport 1 async components\n# vertices 4 edges 3 loops 0\n@1\t1\n@2\t1\n@3\t1\n@4\t1\n1\t1\n2\t1\n3\t1\n4\t1\n",
+        11,
+    )?;
+    rejects(
+        &rt,
+        alloc,
+        "# pgreport 1 async components\n# vertices 4 edges 3 loops 0\n@1\t1\n@2\t1\n@3\t1\n@4\t1\n1\t1\n2\t1\n3\t1\n4\t1\n# quiescent executions 4 gathers 6",
+        11,
+    )?;
+    rejects(
+        &rt,
+        alloc,
+        "# pgreport 1 async components\n# vertices 4 edges 3 loops 0\n@1\t1\n@2\t1\n@3\t1\n@4\t1\n1\t1\n2\t1\n3\t1\n4\t1\n# quiescent executions 4 gathers 6\n\n",
+        12,
+    )
+}
 
-/// Runs a job on a text, and checks what it wrote there. The first of the words is `check`, and the others
-/// are those of the run.
+const COMMENTS: &str =
+    "# Directed graph: comments.txt\n# FromNodeId\tToNodeId\n30\t10\r\n10\t20\r\n10\t20\r\n40\t40\r\n";
+
+const WEIGHTED: &str = "1 2 5\n3\t1\t1\n2 3\n";
+
+const LISTS: &str = "1 2 2 3\n2 0\n3 1 1\n";
+
+/// Runs a job on a text, and checks what it wrote there. The words are those of the run.
 fn confirms<R: Threads + Sync + Abort>(
     rt: &R,
     alloc: Global,
-    words: &[&str],
+    words: &str,
     text: &str,
 ) -> Result<(), Fail> {
-    assert!(rt; !words.is_empty());
-    let ran = outcome_of(rt, alloc, calm(&words[1..], text))?;
-    let bytes = joined(alloc, &[text.as_bytes(), ran.out.bytes()])?;
-    let outcome = checked(rt, alloc, words, bytes.as_slice())?;
-    assert_eq!(rt; outcome.status, Status::Confirmed, "{text}");
-    assert_eq!(rt; outcome.out.bytes(), b"confirmed\n".as_slice(), "{text}");
+    let run = ran(rt, alloc, words, text)?;
+    let bytes = joined(alloc, &[text.as_bytes(), run.out.bytes()])?;
+    let mut again = Vec::new(alloc);
+    again.push("check")?;
+    for word in words.split(' ') {
+        again.push(word)?;
+    }
+    let outcome = checked(rt, alloc, again.as_slice(), bytes.as_slice())?;
+    assert_eq!(rt; outcome.status, Status::Confirmed, "{words}");
+    assert_eq!(rt; outcome.out.bytes(), b"confirmed\n".as_slice(), "{words}");
     Ok(())
+}
+
+/// The same of a program by an engine, with these options.
+fn confirms_by<R: Threads + Sync + Abort>(
+    rt: &R,
+    alloc: Global,
+    engine: &str,
+    program: &str,
+    options: &str,
+    text: &str,
+) -> Result<(), Fail> {
+    let words = format!(in alloc; "{engine} {program} {options}")?;
+    confirms(rt, alloc, words.as_str(), text)
+}
+
+/// The reports of rounds on a text in a format, with paths from this id.
+fn rounds_are_confirmed<R: Threads + Sync + Abort>(
+    rt: &R,
+    alloc: Global,
+    format: &str,
+    source: &str,
+    text: &str,
+) -> Result<(), Fail> {
+    let plain = format!(in alloc; "--format {format}")?;
+    let paths = format!(in alloc; "--format {format} --source {source}")?;
+    let three = format!(in alloc; "--format {format} --rounds 3")?;
+    confirms_by(rt, alloc, "sync", "components", plain.as_str(), text)?;
+    confirms_by(rt, alloc, "sync", "rank", plain.as_str(), text)?;
+    confirms_by(rt, alloc, "sync", "sssp", paths.as_str(), text)?;
+    confirms_by(rt, alloc, "sync", "tree", paths.as_str(), text)?;
+    confirms_by(rt, alloc, "sync", "colour", three.as_str(), text)
+}
+
+/// The reports of executions, likewise.
+fn executions_are_confirmed<R: Threads + Sync + Abort>(
+    rt: &R,
+    alloc: Global,
+    format: &str,
+    source: &str,
+    text: &str,
+) -> Result<(), Fail> {
+    let plain = format!(in alloc; "--serial --format {format}")?;
+    let paths = format!(in alloc; "--serial --format {format} --source {source}")?;
+    let two = format!(in alloc; "--serial --format {format} --fuel 2")?;
+    confirms_by(rt, alloc, "async", "components", plain.as_str(), text)?;
+    confirms_by(rt, alloc, "async", "colour", plain.as_str(), text)?;
+    confirms_by(rt, alloc, "async", "rank", plain.as_str(), text)?;
+    confirms_by(rt, alloc, "async", "rank", two.as_str(), text)?;
+    confirms_by(rt, alloc, "async", "sssp", paths.as_str(), text)?;
+    confirms_by(rt, alloc, "async", "tree", paths.as_str(), text)
 }
 
 #[test]
 fn reports_of_rounds_are_confirmed(rt: HostRuntime) -> Result<(), Fail> {
-    for (text, format, source) in EXAMPLES {
-        for program in ["components", "rank"] {
-            let words = ["check", "sync", program, "--format", format];
-            confirms(&rt, rt.alloc(), &words, text)?;
-        }
-        for program in ["sssp", "tree"] {
-            let words = [
-                "check", "sync", program, "--format", format, "--source", source,
-            ];
-            confirms(&rt, rt.alloc(), &words, text)?;
-        }
-        let words = [
-            "check", "sync", "colour", "--format", format, "--rounds", "3",
-        ];
-        confirms(&rt, rt.alloc(), &words, text)?;
-    }
-    Ok(())
+    let alloc = rt.alloc();
+    rounds_are_confirmed(&rt, alloc, "snap", "1", PATH)?;
+    rounds_are_confirmed(&rt, alloc, "snap", "10", COMMENTS)?;
+    rounds_are_confirmed(&rt, alloc, "tsv", "1", WEIGHTED)?;
+    rounds_are_confirmed(&rt, alloc, "adj", "1", LISTS)
 }
 
 #[test]
 fn reports_of_executions_are_confirmed(rt: HostRuntime) -> Result<(), Fail> {
-    for (text, format, source) in EXAMPLES {
-        for program in ["components", "colour", "rank"] {
-            let words = ["check", "async", program, "--serial", "--format", format];
-            confirms(&rt, rt.alloc(), &words, text)?;
-        }
-        for program in ["sssp", "tree"] {
-            let words = [
-                "check", "async", program, "--serial", "--format", format, "--source", source,
-            ];
-            confirms(&rt, rt.alloc(), &words, text)?;
-        }
-        let words = [
-            "check", "async", "rank", "--serial", "--format", format, "--fuel", "2",
-        ];
-        confirms(&rt, rt.alloc(), &words, text)?;
+    let alloc = rt.alloc();
+    executions_are_confirmed(&rt, alloc, "snap", "1", PATH)?;
+    executions_are_confirmed(&rt, alloc, "snap", "10", COMMENTS)?;
+    executions_are_confirmed(&rt, alloc, "tsv", "1", WEIGHTED)?;
+    executions_are_confirmed(&rt, alloc, "adj", "1", LISTS)
+}
+
+const ABSENT: [&str; 5] = ["check", "async", "sssp", "--source", "9"];
+
+/// What is read first is told first: a text before a source, and a source before the report.
+#[test]
+fn what_comes_first_is_told(rt: HostRuntime) -> Result<(), Fail> {
+    let alloc = rt.alloc();
+    let bytes = behind_the_path(alloc, REPORT)?;
+    let bytes = bytes.as_slice();
+    let few = Status::Text {
+        line: 2,
+        kind: BadLine::TooFew,
+    };
+    let early = check_of(&ASYNC, b"1 2\n7\n# pgreport 1\n");
+    refuses(&rt, alloc, early, few, "line 2: too few\n")?;
+    let text = Given {
+        bytes: 20,
+        ..check_of(&ABSENT, bytes)
+    };
+    refuses(&rt, alloc, text, past(20), "limit: bytes 20\n")?;
+    let source = Given {
+        bytes: 50,
+        ..check_of(&ABSENT, bytes)
+    };
+    refuses(
+        &rt,
+        alloc,
+        source,
+        Status::NoVertex { id: 9 },
+        "no vertex 9\n",
+    )?;
+    let report = Given {
+        bytes: 50,
+        ..check_of(&ASYNC, bytes)
+    };
+    refuses(&rt, alloc, report, past(50), "limit: bytes 50\n")?;
+    let header = Given {
+        bytes: 50,
+        ..check_of(&["check", "sync", "components"], bytes)
+    };
+    let first = Status::Rejected { line: 1 };
+    refuses(&rt, alloc, header, first, "rejected at line 1\n")
+}
+
+/// The limit of bytes is passed.
+fn past(limit: u64) -> Status {
+    Status::Limit {
+        which: Which::Bytes,
+        limit,
     }
-    Ok(())
+}
+
+/// A check of the report behind the path, whose read of this number fails.
+fn with_failed_read<'a>(words: &'a [&'a str], bytes: &'a [u8], reads: &'a [u64]) -> Given<'a> {
+    Given {
+        failed_reads: reads,
+        ..check_of(words, bytes)
+    }
 }
 
 #[test]
-fn what_comes_first_is_told(rt: HostRuntime) -> Result<(), Fail> {
-    let absent = ["check", "async", "sssp", "--source", "9"];
-    let bytes = behind_the_path(rt.alloc(), REPORT)?;
+fn a_failed_read_is_told_where_it_is_made(rt: HostRuntime) -> Result<(), Fail> {
+    let alloc = rt.alloc();
+    let bytes = behind_the_path(alloc, REPORT)?;
     let bytes = bytes.as_slice();
-    let past = |limit| Status::Limit {
-        which: Which::Bytes,
-        limit,
-    };
-    let rows: [(Given<'_>, Status, &str); 9] = [
-        (
-            check_of(&ASYNC, b"1 2\n7\n# pgreport 1\n"),
-            Status::Text {
-                line: 2,
-                kind: BadLine::TooFew,
-            },
-            "line 2: too few\n",
-        ),
-        (
-            Given {
-                bytes: 20,
-                ..check_of(&absent, bytes)
-            },
-            past(20),
-            "limit: bytes 20\n",
-        ),
-        (
-            Given {
-                bytes: 50,
-                ..check_of(&absent, bytes)
-            },
-            Status::NoVertex { id: 9 },
-            "no vertex 9\n",
-        ),
-        (
-            Given {
-                bytes: 50,
-                ..check_of(&ASYNC, bytes)
-            },
-            past(50),
-            "limit: bytes 50\n",
-        ),
-        (
-            Given {
-                bytes: 50,
-                ..check_of(&["check", "sync", "components"], bytes)
-            },
-            Status::Rejected { line: 1 },
-            "rejected at line 1\n",
-        ),
-        (
-            Given {
-                failed_reads: &[2],
-                ..check_of(&ASYNC, bytes)
-            },
-            Status::ReadFault,
-            "read fault\n",
-        ),
-        (
-            Given {
-                failed_reads: &[12],
-                ..check_of(&ASYNC, bytes)
-            },
-            Status::ReadFault,
-            "read fault\n",
-        ),
-        (
-            Given {
-                failed_reads: &[6],
-                ..check_of(&absent, bytes)
-            },
-            Status::ReadFault,
-            "read fault\n",
-        ),
-        (
-            Given {
-                failed_reads: &[12],
-                ..check_of(&absent, bytes)
-            },
-            Status::NoVertex { id: 9 },
-            "no vertex 9\n",
-        ),
-    ];
-    for (given, status, told) in rows {
-        let outcome = outcome_of(&rt, rt.alloc(), given)?;
-        assert_eq!(rt; outcome.status, status, "{told}");
-        assert!(rt; outcome.out.bytes().is_empty(), "{told}");
-        assert_eq!(rt; outcome.err.bytes(), told.as_bytes(), "{told}");
-    }
-    Ok(())
+    let fault = Status::ReadFault;
+    let second = with_failed_read(&ASYNC, bytes, &[2]);
+    refuses(&rt, alloc, second, fault, "read fault\n")?;
+    let twelfth = with_failed_read(&ASYNC, bytes, &[12]);
+    refuses(&rt, alloc, twelfth, fault, "read fault\n")?;
+    let sixth = with_failed_read(&ABSENT, bytes, &[6]);
+    refuses(&rt, alloc, sixth, fault, "read fault\n")?;
+    let unread = with_failed_read(&ABSENT, bytes, &[12]);
+    refuses(
+        &rt,
+        alloc,
+        unread,
+        Status::NoVertex { id: 9 },
+        "no vertex 9\n",
+    )
 }
 
 #[test]

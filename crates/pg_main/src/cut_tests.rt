@@ -3,10 +3,11 @@
 use crate::counters::counters;
 use crate::run::{WORKERS, run};
 use crate::status::Status;
-use crate::tests::{PATH, calm, outcome_of};
+use crate::tests::{Outcome, PATH, ran, reports};
 use pg_base::{Gate, Limits, MemSink, MemSource};
 use std::alloc::Global;
 use std::marker::Brand;
+use std::process::Abort;
 use std::sync::atomic::{AtomicU64, Ordering};
 use std::test::Fail;
 use std::thread::Threads;
@@ -18,75 +19,123 @@ const LISTS: &str = "1 2 2 3\n2 0\n3 1 1\n";
 
 const WEIGHTED: &str = "1 2 5\n3\t1\t1\n2 3\n";
 
-/// The words before those of the cut, a text, and how the run ends.
-type Row<'a> = (&'a [&'a str], &'a str, Status);
+/// A job by one worker, and the same over a cut by these words, end alike and write the same bytes.
+fn is_same_over<R: Threads + Sync + Abort>(
+    rt: &R,
+    alloc: Global,
+    plain: &Outcome,
+    words: &str,
+    cut: &str,
+    text: &str,
+) -> Result<(), Fail> {
+    let line = format!(in alloc; "{words} {cut}")?;
+    let over = ran(rt, alloc, line.as_str(), text)?;
+    assert_eq!(rt; over.status, plain.status, "{line}");
+    assert_eq!(rt; over.out.bytes(), plain.out.bytes(), "{line}");
+    Ok(())
+}
 
-/// The words of a cut.
-const CUTS: [&[&str]; 7] = [
-    &["--workers", "1", "--seed", "3"],
-    &["--workers", "2"],
-    &["--cut", "random", "--workers", "3", "--seed", "7"],
-    &["--workers", "5", "--seed", "9"],
-    &["--cut", "oblivious", "--workers", "4"],
-    &["--workers", "3", "--cut", "coordinated"],
-    &["--workers", "64", "--seed", "18446744073709551615"],
-];
-
-/// One list of words behind another.
-fn joined<'a>(alloc: Global, front: &[&'a str], back: &[&'a str]) -> Result<Vec<&'a str>, Fail> {
-    let mut words = Vec::with_capacity(alloc, front.len().saturating_add(back.len()))?;
-    for word in front {
-        words.push(*word)?;
-    }
-    for word in back {
-        words.push(*word)?;
-    }
-    Ok(words)
+/// So it is for each of these cuts; the job ends so.
+fn is_same_over_cuts<R: Threads + Sync + Abort>(
+    rt: &R,
+    alloc: Global,
+    words: &str,
+    text: &str,
+    status: Status,
+) -> Result<(), Fail> {
+    let plain = ran(rt, alloc, words, text)?;
+    assert_eq!(rt; plain.status, status, "{words}");
+    is_same_over(rt, alloc, &plain, words, "--workers 1 --seed 3", text)?;
+    is_same_over(rt, alloc, &plain, words, "--workers 2", text)?;
+    is_same_over(
+        rt,
+        alloc,
+        &plain,
+        words,
+        "--cut random --workers 3 --seed 7",
+        text,
+    )?;
+    is_same_over(rt, alloc, &plain, words, "--workers 5 --seed 9", text)?;
+    is_same_over(
+        rt,
+        alloc,
+        &plain,
+        words,
+        "--cut oblivious --workers 4",
+        text,
+    )?;
+    is_same_over(
+        rt,
+        alloc,
+        &plain,
+        words,
+        "--workers 3 --cut coordinated",
+        text,
+    )?;
+    let most = "--workers 64 --seed 18446744073709551615";
+    is_same_over(rt, alloc, &plain, words, most, text)
 }
 
 #[test]
-fn every_cut_leaves_the_same_bytes(rt: HostRuntime) -> Result<(), Fail> {
-    let rows: [Row<'_>; 8] = [
-        (&["sync", "components"], "", Status::Quiescent),
-        (&["sync", "components"], PATH, Status::Quiescent),
-        (&["sync", "components"], COMMENTS, Status::Quiescent),
-        (
-            &["sync", "components", "--rounds", "1"],
-            PATH,
-            Status::Spent,
-        ),
-        (
-            &["sync", "colour", "--rounds", "3", "--format", "adj"],
-            LISTS,
-            Status::Spent,
-        ),
-        (
-            &["sync", "rank", "--format", "adj"],
-            LISTS,
-            Status::Quiescent,
-        ),
-        (
-            &["sync", "sssp", "--source", "1", "--format", "tsv"],
-            WEIGHTED,
-            Status::Quiescent,
-        ),
-        (
-            &["sync", "tree", "--source", "3", "--format", "tsv"],
-            WEIGHTED,
-            Status::Quiescent,
-        ),
-    ];
-    for (front, text, status) in rows {
-        let plain = outcome_of(&rt, rt.alloc(), calm(front, text))?;
-        assert_eq!(rt; plain.status, status);
-        for back in CUTS {
-            let words = joined(rt.alloc(), front, back)?;
-            let over = outcome_of(&rt, rt.alloc(), calm(words.as_slice(), text))?;
-            assert_eq!(rt; over.status, status);
-            assert_eq!(rt; over.out.bytes(), plain.out.bytes());
-        }
-    }
-    Ok(())
+fn components_are_the_same_over_every_cut(rt: HostRuntime) -> Result<(), Fail> {
+    let alloc = rt.alloc();
+    is_same_over_cuts(&rt, alloc, "sync components", "", Status::Quiescent)?;
+    is_same_over_cuts(&rt, alloc, "sync components", PATH, Status::Quiescent)?;
+    is_same_over_cuts(&rt, alloc, "sync components", COMMENTS, Status::Quiescent)?;
+    is_same_over_cuts(
+        &rt,
+        alloc,
+        "sync components --rounds 1",
+        PATH,
+        Status::Spent,
+    )
+}
+
+#[test]
+fn programs_are_the_same_over_every_cut(rt: HostRuntime) -> Result<(), Fail> {
+    let alloc = rt.alloc();
+    let colour = "sync colour --rounds 3 --format adj";
+    is_same_over_cuts(&rt, alloc, colour, LISTS, Status::Spent)?;
+    let rank = "sync rank --format adj";
+    is_same_over_cuts(&rt, alloc, rank, LISTS, Status::Quiescent)?;
+    let paths = "sync sssp --source 1 --format tsv";
+    is_same_over_cuts(&rt, alloc, paths, WEIGHTED, Status::Quiescent)?;
+    let tree = "sync tree --source 3 --format tsv";
+    is_same_over_cuts(&rt, alloc, tree, WEIGHTED, Status::Quiescent)
+}
+
+#[test]
+fn kept_gathers_are_counted_once(rt: HostRuntime) -> Result<(), Fail> {
+    let alloc = rt.alloc();
+    let path =
+        "# pgreport 1 sync components\n# vertices 4 edges 3 loops 0\n1\t1\n2\t1\n3\t1\n4\t1\n# quiescent rounds 3 executions 7 gathers 6\n";
+    let calm = Status::Quiescent;
+    let over = "sync components --workers 3 --cut coordinated --cache";
+    reports(&rt, alloc, over, PATH, calm, path)?;
+    reports(&rt, alloc, "sync components --cache", PATH, calm, path)?;
+    let exact =
+        "# pgreport 1 sync rank 0\n# vertices 3 edges 3 loops 0\n1\t150000000\n2\t213750000\n3\t395437500\n# quiescent rounds 3 executions 6 gathers 3\n";
+    let triangle = "1 2\n1 3\n2 3\n";
+    reports(&rt, alloc, "sync rank --cache", triangle, calm, exact)?;
+    let coarse =
+        "# pgreport 1 sync rank 1000000000000\n# vertices 3 edges 3 loops 0\n1\t150000000\n2\t575000000\n3\t1425000000\n# quiescent rounds 1 executions 3 gathers 3\n";
+    let words = "sync rank --tolerance 1000000000000 --cache --workers 2";
+    reports(&rt, alloc, words, triangle, calm, coarse)
+}
+
+#[test]
+fn kept_gathers_are_the_same_over_every_cut(rt: HostRuntime) -> Result<(), Fail> {
+    let alloc = rt.alloc();
+    let components = "sync components --cache";
+    is_same_over_cuts(&rt, alloc, components, COMMENTS, Status::Quiescent)?;
+    let stopped = "sync components --cache --rounds 1";
+    is_same_over_cuts(&rt, alloc, stopped, PATH, Status::Spent)?;
+    let rank = "sync rank --format adj --cache";
+    is_same_over_cuts(&rt, alloc, rank, LISTS, Status::Quiescent)?;
+    let paths = "sync sssp --source 1 --format tsv --cache";
+    is_same_over_cuts(&rt, alloc, paths, WEIGHTED, Status::Quiescent)?;
+    let tree = "sync tree --source 3 --format tsv --cache";
+    is_same_over_cuts(&rt, alloc, tree, WEIGHTED, Status::Quiescent)
 }
 
 /// Two workers, each of which tells that it came, and whether it saw the other come.
@@ -115,7 +164,7 @@ impl Gate for Meeting {
 fn workers_gather_side_by_side(rt: HostRuntime) -> Result<(), Fail> {
     let alloc = rt.alloc();
     let mut words = Vec::new(alloc);
-    for word in ["sync", "components", "--format", "adj", "--workers", "2"] {
+    for word in "sync components --format adj --workers 2".split(' ') {
         words.push(String::from_str(alloc, word)?)?;
     }
     let mut input = MemSource::new(Vec::from_slice(alloc, b"1 0\n2 0\n")?, 64, Vec::new(alloc));

@@ -1,12 +1,15 @@
 //! A run of a program that is named.
-ghost use Rattle.std.specs.Prelude.{◌≡◌, ◌≤◌, length};
+ghost use Rattle.std.specs.Prelude.{◌≡◌, ◌≤◌, Bool, length, IsTrue};
 ghost use Rattle.pg_graph.specs.Multigraph.{Multigraph};
 ghost use Rattle.pg_cut.specs.Cut.{Division};
 ghost use Rattle.pg_words.specs.declared.job.Engine.{Engine as Machine};
 ghost use Rattle.pg_main.specs.Answers.{Reports};
 ghost use Rattle.pg_main.specs.Counters.{ArePresent};
 ghost use Rattle.pg_main.specs.Cuts.{gathers_by, worker_gathers, job_cut, job_gathers};
-ghost use Rattle.pg_check.specs.Outcomes.{outcome_by, outcome_of, HasJournal, HasJournalOf};
+ghost use Rattle.pg_main.specs.Ways.{left_by, left_of, is_kept};
+ghost use Rattle.pg_check.specs.Outcomes.{HasJournal, HasJournalOf};
+ghost use Rattle.pg_sync.specs.Kept.{NeverClears};
+ghost use Rattle.pg_words.specs.Programs.{keeps};
 
 use crate::refusal::Refusal;
 use crate::rounds::report_rounds;
@@ -22,6 +25,17 @@ use std::alloc::Global;
 use std::sync::ledger::Ledger;
 use std::thread::Threads;
 
+/// Whether a job keeps gathers: rounds do where it says so, and the program's scatters tell how gathers change.
+fn keeps_gathers(job: RunJob) -> bool
+    ensures value { result ≡ is_kept job }
+    ensures program { IsTrue result → IsTrue (keeps job.program) }
+{
+    match job.engine {
+        Engine::Sync { .. } => job.program.keeps_gathers() && job.cache,
+        Engine::Serial { .. } => false,
+    }
+}
+
 /// Runs a program, which is the one that the job names, and writes the report.
 fn report_run<R: Threads + Sync, P: VertexProgram, K: Sink, G: Gate, L: Ledger + Send>(
     rt: &R,
@@ -33,22 +47,25 @@ fn report_run<R: Threads + Sync, P: VertexProgram, K: Sink, G: Gate, L: Ledger +
     gate: &G,
     steps: &mut [Option<Steps<L>>],
 ) -> Result<End, Refusal>
-    requires named { (engine : Machine) (g : Multigraph) →
-        outcome_by (P.meaning program.now) g engine ≡ outcome_of job.program engine g }
-    requires counts { (engine : Machine) (g : Multigraph) (cut : Division) (worker : _) →
-        gathers_by (P.meaning program.now) engine g cut worker
-        ≡ worker_gathers job.program engine g cut worker }
+    requires named { (engine : Machine) (kept : Bool) (g : Multigraph) →
+        left_by (P.meaning program.now) g engine kept ≡ left_of job.program engine kept g }
+    requires counts { (engine : Machine) (kept : Bool) (g : Multigraph) (cut : Division) (worker : _) →
+        gathers_by (P.meaning program.now) engine kept g cut worker
+        ≡ worker_gathers job.program engine kept g cut worker }
+    requires deltas { IsTrue (keeps job.program) → IsTrue (P.meaning program.now).keeps_deltas }
+    requires never { IsTrue (keeps job.program) → NeverClears (P.meaning program.now) }
     requires legal { (engine : Machine) (g : Multigraph) →
         HasJournal (P.meaning program.now) g engine → HasJournalOf job.program engine g }
     requires some { 1 ≤ job.workers }
     requires few { job.workers ≤ 64 }
     requires enough { 64 ≤ length steps.old }
     requires present { ArePresent steps.old }
-    ensures { Reports job.program job.engine graph.now (job_gathers job graph.now)
+    ensures { Reports job.program job.engine (is_kept job) graph.now (job_gathers job graph.now)
         (K.written out.old) (K.written out.new) (K.faults out.old) (K.faults out.new)
         steps.old steps.new result }
 {
     let name = job.program;
+    let kept = keeps_gathers(job);
     match job.engine {
         Engine::Sync { rounds } => report_rounds(
             rt,
@@ -58,6 +75,7 @@ fn report_run<R: Threads + Sync, P: VertexProgram, K: Sink, G: Gate, L: Ledger +
             rounds,
             job.workers,
             job.kind,
+            kept,
             graph,
             out,
             gate,
@@ -81,7 +99,7 @@ pub fn report_named<R: Threads + Sync, K: Sink, G: Gate, L: Ledger + Send>(
     requires few { job.workers ≤ 64 }
     requires enough { 64 ≤ length steps.old }
     requires present { ArePresent steps.old }
-    ensures { Reports job.program job.engine graph.now (job_gathers job graph.now)
+    ensures { Reports job.program job.engine (is_kept job) graph.now (job_gathers job graph.now)
         (K.written out.old) (K.written out.new) (K.faults out.old) (K.faults out.new)
         steps.old steps.new result }
 {

@@ -1,13 +1,15 @@
 //! Rounds of a program, by one worker or over a cut, and their report.
-ghost use Rattle.std.specs.Prelude.{◌≡◌, ◌+◌, ◌<◌, ◌≤◌, [], length, IfOk};
+ghost use Rattle.std.specs.Prelude.{◌≡◌, ◌+◌, ◌<◌, ◌≤◌, Bool, false, [], length, IfOk, IsTrue};
 ghost use Rattle.pg_graph.specs.Multigraph.{Multigraph};
 ghost use Rattle.pg_cut.specs.Cut.{Division, IsCutOf};
 ghost use Rattle.pg_words.specs.declared.job.Engine.{Engine as Machine};
 ghost use Rattle.pg_words.specs.declared.job.Engine.TheVariants.{Sync};
 ghost use Rattle.pg_main.specs.Answers.{Reports};
 ghost use Rattle.pg_main.specs.Counters.{ArePresent, FirstTakes, Take};
-ghost use Rattle.pg_main.specs.Cuts.{cut_by, gathers_by, worker_gathers};
-ghost use Rattle.pg_check.specs.Outcomes.{outcome_with, outcome_by, outcome_of};
+ghost use Rattle.pg_main.specs.Cuts.{cut_by, is_alone, gathers_by, worker_gathers};
+ghost use Rattle.pg_main.specs.Ways.{left_by, left_of};
+ghost use Rattle.pg_check.specs.Outcomes.{outcome_with, outcome_by};
+ghost use Rattle.pg_sync.specs.Kept.{NeverClears};
 
 use crate::cut::divide;
 use crate::refusal::Refusal;
@@ -17,6 +19,7 @@ use pg_law::{End, State, Steps, VertexProgram, laws_of};
 use pg_report::{LastLine, write_head, write_tail};
 use pg_rounds::run_gated_rounds;
 use pg_sync::SyncEngine;
+use pg_sync::laws::distinct_gathers;
 use pg_words::{CutKind, EngineName, ProgramName};
 use std::alloc::{AllocError, Global};
 use std::sync::ledger::Ledger;
@@ -82,7 +85,7 @@ fn rounds_alone<P: VertexProgram, G: Gate, L: Ledger>(
 }
 
 /// Rounds of a program from its start, at most `limit`, over a cut: each worker gathers and scatters over its own
-/// edges, and has a counter.
+/// edges, and has a counter. With a `cache` the masters keep gathers.
 fn rounds_over<R: Threads + Sync, P: VertexProgram, G: Gate, L: Ledger + Send>(
     rt: &R,
     alloc: Global,
@@ -90,28 +93,35 @@ fn rounds_over<R: Threads + Sync, P: VertexProgram, G: Gate, L: Ledger + Send>(
     graph: &Graph,
     workers: u8,
     kind: CutKind,
+    cache: bool,
     limit: u32,
     gate: &G,
     steps: &mut [Option<Steps<L>>],
 ) -> Result<Ended, AllocError>
-    requires some { 2 ≤ workers }
+    requires some { 1 ≤ workers }
     requires few { workers ≤ 64 }
+    requires shared { is_alone cache workers ≡ false }
+    requires deltas { IsTrue cache → IsTrue (P.meaning program.now).keeps_deltas }
+    requires never { IsTrue cache → NeverClears (P.meaning program.now) }
     requires enough { 64 ≤ length steps.old }
     requires present { ArePresent steps.old }
     ensures outcome { IfOk result (λ ended. outcome_with [] ended.state ended.last ≡
-        outcome_by (P.meaning program.now) graph.now (Sync limit)) }
+        left_by (P.meaning program.now) graph.now (Sync limit) cache) }
     ensures values { IfOk result (λ ended. length ended.state.values ≡ length graph.now.ids) }
     ensures messages { IfOk result (λ ended. length ended.state.messages ≡ length graph.now.ids) }
-    ensures counted { IfOk result (λ _. Take steps.old steps.new
-        (gathers_by (P.meaning program.now) (Sync limit) graph.now (cut_by kind workers graph.now))) }
+    ensures counted { IfOk result (λ _. Take steps.old steps.new (gathers_by
+        (P.meaning program.now) (Sync limit) cache graph.now (cut_by kind workers graph.now))) }
     ensures present { ArePresent steps.new }
 {
     laws_of(program);
+    distinct_gathers(program);
     let _ = graph.vertices();
     let cut = divide(alloc, graph, workers, kind)?.cut;
     let state = State::start(alloc, program, graph)?;
     let (own, _) = steps.split_at_mut(workers as usize);
-    let end = SyncEngine::run(rt, alloc, program, graph, &cut, state, limit, gate, own)?;
+    let end = SyncEngine::run(
+        rt, alloc, program, graph, &cut, state, cache, limit, gate, own,
+    )?;
     Ok(Ended {
         state: end.state,
         last: LastLine {
@@ -123,7 +133,7 @@ fn rounds_over<R: Threads + Sync, P: VertexProgram, G: Gate, L: Ledger + Send>(
     })
 }
 
-/// Rounds of a program from its start, at most `limit`. One worker needs no cut.
+/// Rounds of a program from its start, at most `limit`. One worker that keeps no gathers needs no cut.
 fn rounds_by<R: Threads + Sync, P: VertexProgram, G: Gate, L: Ledger + Send>(
     rt: &R,
     alloc: Global,
@@ -131,27 +141,39 @@ fn rounds_by<R: Threads + Sync, P: VertexProgram, G: Gate, L: Ledger + Send>(
     graph: &Graph,
     workers: u8,
     kind: CutKind,
+    cache: bool,
     limit: u32,
     gate: &G,
     steps: &mut [Option<Steps<L>>],
 ) -> Result<Ended, AllocError>
     requires some { 1 ≤ workers }
     requires few { workers ≤ 64 }
+    requires deltas { IsTrue cache → IsTrue (P.meaning program.now).keeps_deltas }
+    requires never { IsTrue cache → NeverClears (P.meaning program.now) }
     requires enough { 64 ≤ length steps.old }
     requires present { ArePresent steps.old }
     ensures outcome { IfOk result (λ ended. outcome_with [] ended.state ended.last ≡
-        outcome_by (P.meaning program.now) graph.now (Sync limit)) }
+        left_by (P.meaning program.now) graph.now (Sync limit) cache) }
     ensures values { IfOk result (λ ended. length ended.state.values ≡ length graph.now.ids) }
     ensures messages { IfOk result (λ ended. length ended.state.messages ≡ length graph.now.ids) }
-    ensures counted { IfOk result (λ _. Take steps.old steps.new
-        (gathers_by (P.meaning program.now) (Sync limit) graph.now (cut_by kind workers graph.now))) }
+    ensures counted { IfOk result (λ _. Take steps.old steps.new (gathers_by
+        (P.meaning program.now) (Sync limit) cache graph.now (cut_by kind workers graph.now))) }
     ensures present { ArePresent steps.new }
 {
-    if workers == 1 {
+    if alone(cache, workers) {
         rounds_alone(alloc, program, graph, limit, gate, steps)
     } else {
-        rounds_over(rt, alloc, program, graph, workers, kind, limit, gate, steps)
+        rounds_over(
+            rt, alloc, program, graph, workers, kind, cache, limit, gate, steps,
+        )
     }
+}
+
+/// Whether one worker makes the rounds on the plain edge list.
+fn alone(cache: bool, workers: u8) -> bool
+    ensures { result ≡ is_alone cache workers }
+{
+    !cache && workers == 1
 }
 
 /// Runs rounds of a program, which has this name, and writes their report.
@@ -163,25 +185,31 @@ pub fn report_rounds<R: Threads + Sync, P: VertexProgram, K: Sink, G: Gate, L: L
     limit: u32,
     workers: u8,
     kind: CutKind,
+    cache: bool,
     graph: &Graph,
     out: &mut K,
     gate: &G,
     steps: &mut [Option<Steps<L>>],
 ) -> Result<End, Refusal>
-    requires named { (engine : Machine) (g : Multigraph) →
-        outcome_by (P.meaning program.now) g engine ≡ outcome_of name engine g }
-    requires counts { (engine : Machine) (g : Multigraph) (cut : Division) (worker : _) →
-        gathers_by (P.meaning program.now) engine g cut worker ≡ worker_gathers name engine g cut worker }
+    requires named { (engine : Machine) (kept : Bool) (g : Multigraph) →
+        left_by (P.meaning program.now) g engine kept ≡ left_of name engine kept g }
+    requires counts { (engine : Machine) (kept : Bool) (g : Multigraph) (cut : Division) (worker : _) →
+        gathers_by (P.meaning program.now) engine kept g cut worker
+        ≡ worker_gathers name engine kept g cut worker }
+    requires deltas { IsTrue cache → IsTrue (P.meaning program.now).keeps_deltas }
+    requires never { IsTrue cache → NeverClears (P.meaning program.now) }
     requires some { 1 ≤ workers }
     requires few { workers ≤ 64 }
     requires enough { 64 ≤ length steps.old }
     requires present { ArePresent steps.old }
-    ensures { Reports name (Sync limit) graph.now
-        (worker_gathers name (Sync limit) graph.now (cut_by kind workers graph.now))
+    ensures { Reports name (Sync limit) cache graph.now
+        (worker_gathers name (Sync limit) cache graph.now (cut_by kind workers graph.now))
         (K.written out.old) (K.written out.new) (K.faults out.old) (K.faults out.new)
         steps.old steps.new result }
 {
-    let ended = rounds_by(rt, alloc, program, graph, workers, kind, limit, gate, steps)?;
+    let ended = rounds_by(
+        rt, alloc, program, graph, workers, kind, cache, limit, gate, steps,
+    )?;
     write_head(out, EngineName::Sync, name, graph)?;
     write_tail(out, name, graph, &ended.state, ended.last)?;
     Ok(ended.last.end)

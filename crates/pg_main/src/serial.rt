@@ -1,5 +1,5 @@
 //! The serial machine on a program, and its report.
-ghost use Rattle.std.specs.Prelude.{◌≡◌, ◌≤◌, ◌<◌, length, flat_map, IfOk, OnOk, OnErr, IsErrOf};
+ghost use Rattle.std.specs.Prelude.{◌≡◌, ◌≤◌, ◌<◌, Bool, false, length, flat_map, IfOk, OnOk, OnErr, IsErrOf};
 ghost use Rattle.std.specs.Io.KnownBytes.{append_known};
 ghost use Rattle.pg_base.specs.Faults.{HasRisen};
 ghost use Rattle.pg_base.specs.Writing.{SendsFront};
@@ -13,7 +13,8 @@ ghost use Rattle.pg_main.specs.Answers.{Reports};
 ghost use Rattle.pg_cut.specs.Cut.{Division};
 ghost use Rattle.pg_main.specs.Counters.{ArePresent, FirstTakes};
 ghost use Rattle.pg_main.specs.Cuts.{gathers_by, worker_gathers};
-ghost use Rattle.pg_check.specs.Outcomes.{outcome_with, outcome_by, outcome_of, journal_of, HasJournal, HasJournalOf};
+ghost use Rattle.pg_main.specs.Ways.{left_by, left_of};
+ghost use Rattle.pg_check.specs.Outcomes.{outcome_with, outcome_by, journal_of, HasJournal, HasJournalOf};
 
 use crate::refusal::Refusal;
 use pg_base::Sink;
@@ -75,16 +76,17 @@ pub fn report_serial<P: VertexProgram, K: Sink, L: Ledger>(
     out: &mut K,
     steps: &mut [Option<Steps<L>>],
 ) -> Result<End, Refusal>
-    requires named { (engine : Machine) (g : Multigraph) →
-        outcome_by (P.meaning program.now) g engine ≡ outcome_of name engine g }
-    requires counts { (engine : Machine) (g : Multigraph) (cut : Division) (worker : _) →
-        gathers_by (P.meaning program.now) engine g cut worker ≡ worker_gathers name engine g cut worker }
+    requires named { (engine : Machine) (kept : Bool) (g : Multigraph) →
+        left_by (P.meaning program.now) g engine kept ≡ left_of name engine kept g }
+    requires counts { (engine : Machine) (kept : Bool) (g : Multigraph) (cut : Division) (worker : _) →
+        gathers_by (P.meaning program.now) engine kept g cut worker
+        ≡ worker_gathers name engine kept g cut worker }
     requires legal { (engine : Machine) (g : Multigraph) →
         HasJournal (P.meaning program.now) g engine → HasJournalOf name engine g }
     requires some { 0 < length steps.old }
     requires present { ArePresent steps.old }
-    ensures { (cut : Division) → Reports name (Serial fuel) graph.now
-        (worker_gathers name (Serial fuel) graph.now cut)
+    ensures { (cut : Division) → Reports name (Serial fuel) false graph.now
+        (worker_gathers name (Serial fuel) false graph.now cut)
         (K.written out.old) (K.written out.new) (K.faults out.old) (K.faults out.new)
         steps.old steps.new result }
 {

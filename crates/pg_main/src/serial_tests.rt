@@ -57,60 +57,64 @@ fn run_of<P: VertexProgram>(
     Ok(Ran { end, sink })
 }
 
+/// A run on the path with this fuel has this journal, these labels and these messages.
+fn runs_to(
+    rt: &impl Abort,
+    alloc: Global,
+    graph: &Graph,
+    fuel: u32,
+    journal: &str,
+    labels: [u64; 4],
+    messages: [Option<u64>; 4],
+) -> Result<AsyncEnd, Fail> {
+    let run = run_of(alloc, &Components::new(), graph, fuel, 7, &[])?;
+    let ended = run.end?;
+    assert_eq!(rt; run.sink.bytes(), journal.as_bytes(), "fuel {fuel}");
+    assert_eq!(rt;
+        ended.state.values.as_slice(),
+        labels.map(|label| Datum::one(label)).as_slice(),
+        "fuel {fuel}"
+    );
+    assert_eq!(rt;
+        ended.state.messages.as_slice(),
+        messages.as_slice(),
+        "fuel {fuel}"
+    );
+    Ok(ended)
+}
+
 #[test]
-fn a_serial_run_executes_the_least_vertex_until_its_fuel_ends(rt: HostRuntime) -> Result<(), Fail> {
-    let graph = graph_of(&rt, rt.alloc(), PATH.as_slice())?;
-    let rows: [(u32, &str, [u64; 4], [Option<u64>; 4], (u64, u64), End); 4] = [
-        (
-            0,
-            "",
-            [1, 2, 3, 4],
-            [Some(1), Some(2), Some(3), Some(4)],
-            (0, 0),
-            End::Spent,
-        ),
-        (
-            3,
-            "@1\t1\n@2\t1\n@3\t1\n",
-            [1, 1, 1, 4],
-            [None, None, None, Some(1)],
-            (3, 5),
-            End::Spent,
-        ),
-        (
-            4,
-            "@1\t1\n@2\t1\n@3\t1\n@4\t1\n",
-            [1, 1, 1, 1],
-            [None; 4],
-            (4, 6),
-            End::Quiescent,
-        ),
-        (
-            u32::MAX,
-            "@1\t1\n@2\t1\n@3\t1\n@4\t1\n",
-            [1, 1, 1, 1],
-            [None; 4],
-            (4, 6),
-            End::Quiescent,
-        ),
-    ];
-    for (fuel, journal, labels, messages, took, end) in rows {
-        let run = run_of(rt.alloc(), &Components::new(), &graph, fuel, 7, &[])?;
-        let ended = run.end?;
-        assert_eq!(rt; run.sink.bytes(), journal.as_bytes(), "fuel {fuel}");
-        assert_eq!(rt; (ended.executions, ended.gathers), took, "fuel {fuel}");
-        assert_eq!(rt; ended.end, end, "fuel {fuel}");
+fn a_serial_run_executes_the_least_vertex(rt: HostRuntime) -> Result<(), Fail> {
+    let alloc = rt.alloc();
+    let graph = graph_of(&rt, alloc, PATH.as_slice())?;
+    let journal = "@1\t1\n@2\t1\n@3\t1\n@4\t1\n";
+    for fuel in [4, u32::MAX] {
+        let ended = runs_to(&rt, alloc, &graph, fuel, journal, [1, 1, 1, 1], [None; 4])?;
         assert_eq!(rt;
-            ended.state.values.as_slice(),
-            labels.map(|label| Datum::one(label)).as_slice(),
-            "fuel {fuel}"
-        );
-        assert_eq!(rt;
-            ended.state.messages.as_slice(),
-            messages.as_slice(),
-            "fuel {fuel}"
+            (ended.executions, ended.gathers, ended.end),
+            (4, 6, End::Quiescent)
         );
     }
+    Ok(())
+}
+
+#[test]
+fn a_serial_run_stops_where_its_fuel_ends(rt: HostRuntime) -> Result<(), Fail> {
+    let alloc = rt.alloc();
+    let graph = graph_of(&rt, alloc, PATH.as_slice())?;
+    let first = [Some(1), Some(2), Some(3), Some(4)];
+    let ended = runs_to(&rt, alloc, &graph, 0, "", [1, 2, 3, 4], first)?;
+    assert_eq!(rt;
+        (ended.executions, ended.gathers, ended.end),
+        (0, 0, End::Spent)
+    );
+    let journal = "@1\t1\n@2\t1\n@3\t1\n";
+    let last = [None, None, None, Some(1)];
+    let ended = runs_to(&rt, alloc, &graph, 3, journal, [1, 1, 1, 4], last)?;
+    assert_eq!(rt;
+        (ended.executions, ended.gathers, ended.end),
+        (3, 5, End::Spent)
+    );
     Ok(())
 }
 
@@ -244,24 +248,34 @@ fn found(alloc: Global, graph: &Graph, journal: &[(u32, u64)]) -> Result<String,
     })
 }
 
+/// A replay of a journal on a graph finds this.
+fn finds(
+    rt: &impl Abort,
+    alloc: Global,
+    graph: &Graph,
+    journal: &[(u32, u64)],
+    want: &str,
+) -> Result<(), Fail> {
+    let found = found(alloc, graph, journal)?;
+    assert_eq!(rt; found.as_str(), want);
+    Ok(())
+}
+
 #[test]
 fn a_replay_finds_the_first_entry_that_is_not_legal(rt: HostRuntime) -> Result<(), Fail> {
-    let graph = graph_of(&rt, rt.alloc(), PATH.as_slice())?;
-    let rows: [(&[(u32, u64)], &str); 8] = [
-        (&[], "legal 10"),
-        (&[(0, 1), (1, 1), (2, 1), (3, 1)], "legal 4"),
-        (&[(3, 3), (2, 2), (1, 1)], "legal 7"),
-        (&[(0, 1), (2, 1), (1, 1)], "wrong value 1 2"),
-        (&[(0, 2)], "wrong value 0 1"),
-        (&[(0, 1), (0, 1)], "not signalled 1"),
-        (&[(4, 4)], "not signalled 0"),
-        (&[(0, 1), (u32::MAX, 1), (1, 2)], "not signalled 1"),
-    ];
-    for (journal, want) in rows {
-        let found = found(rt.alloc(), &graph, journal)?;
-        assert_eq!(rt; found.as_str(), want);
-    }
-    Ok(())
+    let alloc = rt.alloc();
+    let graph = graph_of(&rt, alloc, PATH.as_slice())?;
+    finds(&rt, alloc, &graph, &[], "legal 10")?;
+    let all = [(0, 1), (1, 1), (2, 1), (3, 1)];
+    finds(&rt, alloc, &graph, &all, "legal 4")?;
+    finds(&rt, alloc, &graph, &[(3, 3), (2, 2), (1, 1)], "legal 7")?;
+    let stale = [(0, 1), (2, 1), (1, 1)];
+    finds(&rt, alloc, &graph, &stale, "wrong value 1 2")?;
+    finds(&rt, alloc, &graph, &[(0, 2)], "wrong value 0 1")?;
+    finds(&rt, alloc, &graph, &[(0, 1), (0, 1)], "not signalled 1")?;
+    finds(&rt, alloc, &graph, &[(4, 4)], "not signalled 0")?;
+    let beyond = [(0, 1), (u32::MAX, 1), (1, 2)];
+    finds(&rt, alloc, &graph, &beyond, "not signalled 1")
 }
 
 /// Executes vertices in turn, and compares what they leave.
