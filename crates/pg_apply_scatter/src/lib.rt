@@ -8,8 +8,6 @@ mod near;
 mod push;
 mod scatter;
 mod sent;
-#[cfg(test)]
-mod tests;
 mod visit;
 
 pub use apply::apply_masters;

@@ -7,11 +7,7 @@ mod course;
 mod entry;
 pub mod laws;
 mod place;
-#[cfg(test)]
-mod sample;
 mod tail;
-#[cfg(test)]
-mod tests;
 mod verdict;
 
 pub use checking::check;

@@ -8,8 +8,6 @@ mod keys;
 mod mix;
 mod span;
 mod tally;
-#[cfg(test)]
-mod tests;
 mod worker_set;
 
 pub use cut::Cut;

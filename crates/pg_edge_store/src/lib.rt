@@ -5,8 +5,6 @@ mod around;
 mod between;
 mod laws;
 mod store;
-#[cfg(test)]
-mod tests;
 
 pub use around::Around;
 pub use laws::{places_are_edges, rows_are_places, rows_in_a_direction, sides_are_sides};

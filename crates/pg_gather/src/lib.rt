@@ -5,8 +5,6 @@ mod laws;
 mod merge;
 mod near;
 mod partial;
-#[cfg(test)]
-mod tests;
 
 pub use laws::{parts_are_fresh, shares_are_readable};
 pub use merge::merge_at_masters;

@@ -10,8 +10,6 @@ mod loaders;
 mod marks;
 mod placed;
 mod table;
-#[cfg(test)]
-mod tests;
 mod together;
 
 pub use loaders::{GreedyCut, coordinated, oblivious};

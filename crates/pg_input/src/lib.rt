@@ -10,6 +10,3 @@ mod part;
 pub use error::{InputError, Which, from_cut};
 pub use graph::read_graph;
 pub use part::{Part, read_part};
-
-#[cfg(test)]
-mod tests;

@@ -3,8 +3,6 @@
 
 mod entry;
 mod fronts;
-#[cfg(test)]
-mod tests;
 mod text;
 
 pub use entry::{put_entry, read_entry};

@@ -23,8 +23,4 @@ pub mod seat;
 mod signalled;
 mod stepping;
 pub mod table;
-#[cfg(test)]
-mod table_tests;
-#[cfg(test)]
-mod tests;
 mod turning;

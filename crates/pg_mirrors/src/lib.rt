@@ -3,8 +3,6 @@
 
 mod laws;
 mod table;
-#[cfg(test)]
-mod tests;
 
 pub use laws::replicas_are_in_spans;
 pub use table::MirrorTable;

@@ -12,6 +12,3 @@ pub use line::{LastLine, ReportLine};
 pub use put::put_line;
 pub use read::read_report_line;
 pub use write::{write_counts, write_head, write_tail};
-
-#[cfg(test)]
-mod tests;

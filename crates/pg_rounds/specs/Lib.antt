@@ -2,5 +2,3 @@ pub mod Carries
 pub mod Drafts
 pub mod Gathers
 pub mod Visits
-pub mod Rising
-pub mod RisingLaws

@@ -22,6 +22,3 @@ pub use round::one_round;
 pub use run::{Ran, run_parts};
 pub use shares::{replicas_of, workers_of};
 pub use worker::{Scattering, Seat};
-
-#[cfg(test)]
-mod tests;

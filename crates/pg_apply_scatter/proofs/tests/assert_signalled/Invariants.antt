@@ -1,7 +1,0 @@
-use Rattle.std.proofs.Common.{ℕ, ◌<◌, get_or}
-use Rattle.pg_paths.specs.Components.{components}
-use Rattle.pg_apply_scatter.specs.Applying.{IsMastered}
-use Rattle.pg_apply_scatter.proofs.tests.assert_signalled.Given as goal
-
-abbrev pub invariant-loop-i : goal.invariant-loop-i
-invariant-loop-i g l = (k : ℕ) → k < l.i → IsMastered components l.graph l.messages (get_or l.sums k (0, 0))

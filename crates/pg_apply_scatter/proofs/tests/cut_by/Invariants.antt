@@ -1,9 +1,0 @@
-use Rattle.std.proofs.Common.{◌≡◌, ◌<◌, length}
-use Rattle.std.specs.Prelude.{All}
-use Rattle.pg_apply_scatter.proofs.tests.cut_by.Given as goal
-
-abbrev pub invariant-loop-worker : goal.invariant-loop-worker
-invariant-loop-worker g l = record {
-  count : length l.place.items ≡ l.worker-index;
-  each : All (λ w. w < l.workers) l.place.items;
-}

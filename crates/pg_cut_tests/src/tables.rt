@@ -1,0 +1,152 @@
+//! Tables over the edge from 1 to 2, on one worker, with two actors.
+ghost use Rattle.std.specs.Prelude.{◌≡◌, ◌<◌, length, IfOk};
+ghost use Rattle.pg_cut.specs.Cut.{IsCutOf};
+ghost use Rattle.pg_meals.specs.Steps.{IsWithin};
+ghost use Rattle.pg_meals.specs.Tables.{IsSameTable};
+
+use pg_base::Limits;
+use pg_cut::Cut;
+use pg_delta::CacheCell;
+use pg_graph::{Graph, GraphBuilder};
+use pg_law::{Datum, State};
+use pg_meals::act::{Act, Outcome};
+use pg_meals::table::{Closed, MealTable};
+use pg_paths::Components;
+use std::alloc::Global;
+use std::process::Abort;
+use std::test::Fail;
+
+/// The edge from 1 to 2.
+fn line(rt: &impl Abort, alloc: Global) -> Result<Graph, Fail>
+    ensures vertices { IfOk result (λ graph. length graph.ids ≡ 2) }
+    ensures edges { IfOk result (λ graph. length graph.edges ≡ 1) }
+{
+    let mut builder = GraphBuilder::new(alloc, Limits::standard())?;
+    builder.edge(1, 2, 1)?;
+    let graph = builder.finish()?;
+    assert!(rt; graph.vertices() == 2);
+    assert!(rt; graph.edges().len() == 1);
+    Ok(graph)
+}
+
+/// All edges on one worker.
+fn whole(rt: &impl Abort, alloc: Global, graph: &Graph) -> Result<Cut, Fail>
+    ensures { IfOk result (λ cut. IsCutOf graph.now cut) }
+{
+    let place = vec![in alloc; 0u8; graph.edges().len()]?;
+    for worker in place.as_slice() {
+        assert!(rt; *worker < 1);
+    }
+    Ok(Cut::of(alloc, graph, 1, place)?)
+}
+
+/// A table for two actors and eight entries.
+fn open<'g>(
+    rt: &impl Abort,
+    alloc: Global,
+    program: &'g Components,
+    graph: &'g Graph,
+) -> Result<MealTable<'g, Components>, Fail>
+    ensures actors { IfOk result (λ table. length table.board.actors.items ≡ 2) }
+    ensures graph { IfOk result (λ table. table.graph ≡ graph.now) }
+{
+    let cut = whole(rt, alloc, graph)?;
+    let state = State::start(alloc, program, graph)?;
+    let table = MealTable::open(alloc, program, graph, &cut, state, None, 2, 8)?;
+    Ok(table)
+}
+
+/// The actor acts, and is told this, or nothing where it may not.
+fn acts(
+    rt: &impl Abort,
+    table: &mut MealTable<Components>,
+    actor: u32,
+    act: Act,
+    told: Option<Outcome>,
+)
+    requires actor { actor < length table.old.board.actors.items }
+    requires act { IsWithin table.old.graph act }
+    ensures { IsSameTable table.old table.new }
+{
+    assert_eq!(rt; table.step(actor, act), told);
+}
+
+const MOVED: Option<Outcome> = Some(Outcome::Moved);
+
+#[test]
+fn a_pinned_fork_is_asked_for(rt: HostRuntime) -> Result<(), Fail> {
+    let graph = line(&rt, rt.alloc())?;
+    let program = Components::new();
+    let mut table = open(&rt, rt.alloc(), &program, &graph)?;
+    acts(&rt, &mut table, 0, Act::Claim { vertex: 0 }, MOVED);
+    acts(&rt, &mut table, 1, Act::Claim { vertex: 1 }, MOVED);
+    acts(&rt, &mut table, 1, Act::Pin { edge: 0 }, MOVED);
+    acts(&rt, &mut table, 0, Act::Pin { edge: 0 }, None);
+    acts(&rt, &mut table, 0, Act::Ask { edge: 0 }, MOVED);
+    let saw = Some(Outcome::Saw { bits: 15 });
+    acts(&rt, &mut table, 1, Act::Look { edge: 0 }, saw);
+    Ok(())
+}
+
+#[test]
+fn the_first_signalled_vertex_is_the_one_of_least_rank(rt: HostRuntime) -> Result<(), Fail> {
+    let graph = line(&rt, rt.alloc())?;
+    let program = Components::new();
+    let table = open(&rt, rt.alloc(), &program, &graph)?;
+    assert_eq!(rt; table.least_signalled(), Some(0));
+    Ok(())
+}
+
+#[test]
+fn a_table_is_closed_over_the_state_at_the_start(rt: HostRuntime) -> Result<(), Fail> {
+    let graph = line(&rt, rt.alloc())?;
+    let program = Components::new();
+    let table = open(&rt, rt.alloc(), &program, &graph)?;
+    let closed = table.close();
+    let Some(closed) = closed else {
+        panic!(&rt; "no vertex is in hand");
+    };
+    let data = [Datum::one(1), Datum::one(2)];
+    assert_eq!(rt; closed.state.values.as_slice(), data.as_slice());
+    assert!(rt; closed.state.messages.len() == 2);
+    assert!(rt; closed.state.messages[0].is_some());
+    assert_eq!(rt; closed.state.edges.len(), 1);
+    assert_eq!(rt; closed.journal.len(), 0);
+    assert!(rt; closed.caches.is_none());
+    Ok(())
+}
+
+#[test]
+fn no_table_is_closed_while_a_vertex_is_in_hand(rt: HostRuntime) -> Result<(), Fail> {
+    let graph = line(&rt, rt.alloc())?;
+    let program = Components::new();
+    let mut table = open(&rt, rt.alloc(), &program, &graph)?;
+    acts(&rt, &mut table, 0, Act::Claim { vertex: 0 }, MOVED);
+    assert!(rt; table.close().is_none());
+    Ok(())
+}
+
+#[test]
+fn cells_are_given_back(rt: HostRuntime) -> Result<(), Fail> {
+    let alloc = rt.alloc();
+    let graph = line(&rt, alloc)?;
+    let program = Components::new();
+    let cut = whole(&rt, alloc, &graph)?;
+    let state = State::start(alloc, &program, &graph)?;
+    let caches: Option<Vec<CacheCell<u64>>> = Some(Vec::new(alloc));
+    let table = MealTable::open(alloc, &program, &graph, &cut, state, caches, 1, 0)?;
+    let closed = table.close();
+    let Some(closed) = closed else {
+        panic!(&rt; "no vertex is in hand");
+    };
+    let Closed {
+        caches,
+        state: _,
+        journal: _,
+    } = closed;
+    let Some(cells) = caches else {
+        panic!(&rt; "there were caches");
+    };
+    assert_eq!(rt; cells.len(), 2);
+    Ok(())
+}
