@@ -1,7 +1,7 @@
 //! Whole checks of reports behind their texts.
 
+use crate::sessions::{Given, Outcome, PATH, calm, outcome_of, ran, refuses, sessions};
 use crate::status::Status;
-use crate::tests::{Given, Outcome, PATH, calm, outcome_of, ran, refuses};
 use pg_input::Which;
 use pg_readers::BadLine;
 use std::alloc::{AllocError, Global};
@@ -59,58 +59,103 @@ fn the_report_that_was_written_is_confirmed(rt: HostRuntime) -> Result<(), Fail>
     Ok(())
 }
 
-/// A report behind the path is rejected at this line.
-fn rejects<R: Threads + Sync + Abort>(
-    rt: &R,
-    alloc: Global,
-    report: &str,
-    line: u64,
-) -> Result<(), Fail> {
-    let bytes = behind_the_path(alloc, report)?;
-    let told = format!(in alloc; "rejected at line {line}\n")?;
-    let outcome = checked(rt, alloc, &ASYNC, bytes.as_slice())?;
-    assert_eq!(rt; outcome.status, Status::Rejected { line }, "{report}");
-    assert_eq!(rt; outcome.status.code(), 10, "{report}");
-    assert!(rt; outcome.out.bytes().is_empty(), "{report}");
-    assert_eq!(rt; outcome.err.bytes(), told.as_bytes(), "{report}");
-    Ok(())
-}
+const REJECTED: &str = "\
+$ check async components
+1\t2
+2\t3
+3\t4
+> 10 rejected at line 1
+$ check async components
+1\t2
+2\t3
+3\t4
+# pgreport 1 sync components
+> 10 rejected at line 1
+$ check async components
+1\t2
+2\t3
+3\t4
+# pgreport 1 async components
+# vertices 4 edges 3 loops 0
+@1\t1
+@3\t1
+@2\t1
+@4\t1
+1\t1
+2\t1
+3\t1
+4\t1
+# quiescent executions 4 gathers 6
+> 10 rejected at line 4
+$ check async components
+1\t2
+2\t3
+3\t4
+# pgreport 1 async components
+# vertices 4 edges 3 loops 0
+@1\t1
+@2\t1
+@3\t1
+1\t1
+2\t1
+3\t1
+4\t4
+?4\t1
+# spent executions 3 gathers 5
+> 10 rejected at line 6
+$ check async components
+1\t2
+2\t3
+3\t4
+# pgreport 1 async components
+# vertices 4 edges 3 loops 0
+@1\t1
+@2\t1
+@3\t1
+@4\t1
+1\t1
+2\t1
+3\t1
+4\t1
+> 10 rejected at line 11
+$ check async components
+1\t2
+2\t3
+3\t4
+# pgreport 1 async components
+# vertices 4 edges 3 loops 0
+@1\t1
+@2\t1
+@3\t1
+@4\t1
+1\t1
+2\t1
+3\t1
+4\t1
+# quiescent executions 4 gathers 6%
+> 10 rejected at line 11
+$ check async components
+1\t2
+2\t3
+3\t4
+# pgreport 1 async components
+# vertices 4 edges 3 loops 0
+@1\t1
+@2\t1
+@3\t1
+@4\t1
+1\t1
+2\t1
+3\t1
+4\t1
+# quiescent executions 4 gathers 6
+
+> 10 rejected at line 12
+";
 
 #[test]
 fn another_report_is_rejected_at_its_first_wrong_line(rt: HostRuntime) -> Result<(), Fail> {
-    let alloc = rt.alloc();
-    rejects(&rt, alloc, "", 1)?;
-    rejects(&rt, alloc, "# pgreport 1 sync components\n", 1)?;
-    rejects(
-        &rt,
-        alloc,
-        "# pgreport 1 async components\n# vertices 4 edges 3 loops 0\n@1\t1\n@3\t1\n@2\t1\n@4\t1\n1\t1\n2\t1\n3\t1\n4\t1\n# quiescent executions 4 gathers 6\n",
-        4,
-    )?;
-    rejects(
-        &rt,
-        alloc,
-        "# pgreport 1 async components\n# vertices 4 edges 3 loops 0\n@1\t1\n@2\t1\n@3\t1\n1\t1\n2\t1\n3\t1\n4\t4\n?4\t1\n# spent executions 3 gathers 5\n",
-        6,
-    )?;
-    rejects(
-        &rt,
-        alloc,
-        "# pgreport 1 async components\n# vertices 4 edges 3 loops 0\n@1\t1\n@2\t1\n@3\t1\n@4\t1\n1\t1\n2\t1\n3\t1\n4\t1\n",
-        11,
-    )?;
-    rejects(
-        &rt,
-        alloc,
-        "# pgreport 1 async components\n# vertices 4 edges 3 loops 0\n@1\t1\n@2\t1\n@3\t1\n@4\t1\n1\t1\n2\t1\n3\t1\n4\t1\n# quiescent executions 4 gathers 6",
-        11,
-    )?;
-    rejects(
-        &rt,
-        alloc,
-        "# pgreport 1 async components\n# vertices 4 edges 3 loops 0\n@1\t1\n@2\t1\n@3\t1\n@4\t1\n1\t1\n2\t1\n3\t1\n4\t1\n# quiescent executions 4 gathers 6\n\n",
-        12,
-    )
+    sessions(&rt, rt.alloc(), REJECTED)
 }
 
 const COMMENTS: &str =

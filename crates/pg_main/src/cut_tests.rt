@@ -2,8 +2,8 @@
 
 use crate::counters::counters;
 use crate::run::{WORKERS, run};
+use crate::sessions::{Outcome, PATH, ran};
 use crate::status::Status;
-use crate::tests::{Outcome, PATH, ran, reports};
 use pg_base::{Gate, Limits, MemSink, MemSource};
 use std::alloc::Global;
 use std::marker::Brand;
@@ -102,25 +102,6 @@ fn programs_are_the_same_over_every_cut(rt: HostRuntime) -> Result<(), Fail> {
     is_same_over_cuts(&rt, alloc, paths, WEIGHTED, Status::Quiescent)?;
     let tree = "sync tree --source 3 --format tsv";
     is_same_over_cuts(&rt, alloc, tree, WEIGHTED, Status::Quiescent)
-}
-
-#[test]
-fn kept_gathers_are_counted_once(rt: HostRuntime) -> Result<(), Fail> {
-    let alloc = rt.alloc();
-    let path =
-        "# pgreport 1 sync components\n# vertices 4 edges 3 loops 0\n1\t1\n2\t1\n3\t1\n4\t1\n# quiescent rounds 3 executions 7 gathers 6\n";
-    let calm = Status::Quiescent;
-    let over = "sync components --workers 3 --cut coordinated --cache";
-    reports(&rt, alloc, over, PATH, calm, path)?;
-    reports(&rt, alloc, "sync components --cache", PATH, calm, path)?;
-    let exact =
-        "# pgreport 1 sync rank 0\n# vertices 3 edges 3 loops 0\n1\t150000000\n2\t213750000\n3\t395437500\n# quiescent rounds 3 executions 6 gathers 3\n";
-    let triangle = "1 2\n1 3\n2 3\n";
-    reports(&rt, alloc, "sync rank --cache", triangle, calm, exact)?;
-    let coarse =
-        "# pgreport 1 sync rank 1000000000000\n# vertices 3 edges 3 loops 0\n1\t150000000\n2\t575000000\n3\t1425000000\n# quiescent rounds 1 executions 3 gathers 3\n";
-    let words = "sync rank --tolerance 1000000000000 --cache --workers 2";
-    reports(&rt, alloc, words, triangle, calm, coarse)
 }
 
 #[test]

@@ -1,9 +1,7 @@
 //! Reports that are right, and reports that are wrong in one line.
 ghost use Rattle.std.specs.Prelude.{◌≡◌, ◌<◌};
 
-use crate::reports::{
-    ASYNC, SPENT, SYNC, TREE, executions, find, find_lines, job, rounds, text_of, text_with,
-};
+use crate::reports::{ASYNC, SPENT, SYNC, TREE, executions, find, job, rounds, text_of, text_with};
 use pg_check::Verdict;
 use pg_input::{InputError, Which};
 use pg_law::VertexProgram;
@@ -66,187 +64,173 @@ fn a_report_that_is_cut_off_is_wrong_there(rt: HostRuntime) -> Result<(), Fail> 
     Ok(())
 }
 
+/// What is wrong; the fuel of the job, or that it makes rounds; the report; the place of the line that is replaced, or the number of all;
+/// the lines in its place, each with a `/` for its line feed; and the first wrong line.
+const WRONG: &str = "\
+no header | rounds | sync | 0 |  | 1
+another engine | 9 | sync | 7 |  | 1
+another program | rounds | sync | 0 | # pgreport 1 sync colour/ | 1
+another format | rounds | sync | 0 | # pgreport 2 sync components/ | 1
+another count | rounds | sync | 1 | # vertices 4 edges 3 loops 1/ | 2
+no counts | rounds | sync | 1 |  | 2
+another value | rounds | sync | 3 | 2\t2/ | 4
+a leading zero | rounds | sync | 3 | 2\t01/ | 4
+a carriage return | rounds | sync | 3 | 2\t1\r/ | 4
+a value twice | rounds | sync | 3 | 2\t1/2\t1/ | 5
+an entry of rounds | rounds | sync | 2 | @1\t1/1\t1/ | 3
+a line behind the last | rounds | sync | 7 | / | 8
+an entry left out | 9 | async | 5 |  | 6
+an entry twice | 9 | async | 3 | @2\t1/@2\t1/ | 5
+another datum | 9 | async | 4 | @3\t2/ | 5
+an entry with a zero | 9 | async | 4 | @03\t1/ | 5
+an absent vertex | 9 | async | 4 | @5\t1/ | 5
+a mark alone | 9 | async | 4 | @/ | 5
+a second value | 9 | async | 4 | @3\t1\t1/ | 5
+an entry past the fuel | 3 | async | 11 |  | 6
+an entry behind the last | 4 | async | 6 | @1\t1/1\t1/ | 7
+a line behind the end | 4 | async | 11 | x | 12";
+
+/// The check of one row of the table ends at its line.
+fn is_wrong_there(rt: &impl Abort, alloc: Global, row: &str) -> Result<(), Fail> {
+    let mut columns = row.split(" | ").skip(1);
+    if let Some(fuel) = columns.next()
+        && let Some(report) = columns.next()
+        && let Some(at) = columns.next()
+        && let Some(instead) = columns.next()
+        && let Some(line) = columns.next()
+    {
+        let lines = if report == "sync" {
+            SYNC.as_slice()
+        } else {
+            ASYNC.as_slice()
+        };
+        let instead = instead.replace(alloc, '/', "\n")?;
+        let text = text_with(alloc, lines, number(rt, at) as usize, instead.as_str())?;
+        let job = match fuel.parse::<u32>() {
+            Ok(fuel) => executions(fuel),
+            Err(_) => rounds(),
+        };
+        let found = find(alloc, &Components::new(), job, text.as_slice(), 999, &[])?;
+        let line = number(rt, line) as u64;
+        assert_eq!(rt; found, Ok(Verdict::Rejected { line }), "{row}");
+    } else {
+        assert!(rt; false, "{row}");
+    }
+    Ok(())
+}
+
+/// A number of a table.
+fn number(rt: &impl Abort, digits: &str) -> u32 {
+    match digits.parse::<u32>() {
+        Ok(number) => number,
+        Err(_) => panic!(rt; "{digits}"),
+    }
+}
+
 #[test]
 fn the_first_wrong_line_is_told(rt: HostRuntime) -> Result<(), Fail> {
-    // A line of the report is replaced by these, which may be none or several.
-    let rows: [(&str, RunJob, &[&str], usize, &str, u64); 22] = [
-        ("no header", rounds(), &SYNC, 0, "", 1),
-        ("another engine", executions(9), &SYNC, 7, "", 1),
-        (
-            "another program",
-            rounds(),
-            &SYNC,
-            0,
-            "# pgreport 1 sync colour\n",
-            1,
-        ),
-        (
-            "another format",
-            rounds(),
-            &SYNC,
-            0,
-            "# pgreport 2 sync components\n",
-            1,
-        ),
-        (
-            "another count",
-            rounds(),
-            &SYNC,
-            1,
-            "# vertices 4 edges 3 loops 1\n",
-            2,
-        ),
-        ("no counts", rounds(), &SYNC, 1, "", 2),
-        ("another value", rounds(), &SYNC, 3, "2\t2\n", 4),
-        ("a leading zero", rounds(), &SYNC, 3, "2\t01\n", 4),
-        ("a carriage return", rounds(), &SYNC, 3, "2\t1\r\n", 4),
-        ("a value twice", rounds(), &SYNC, 3, "2\t1\n2\t1\n", 5),
-        ("an entry of rounds", rounds(), &SYNC, 2, "@1\t1\n1\t1\n", 3),
-        ("a line behind the last", rounds(), &SYNC, 7, "\n", 8),
-        ("an entry left out", executions(9), &ASYNC, 5, "", 6),
-        (
-            "an entry twice",
-            executions(9),
-            &ASYNC,
-            3,
-            "@2\t1\n@2\t1\n",
-            5,
-        ),
-        ("another datum", executions(9), &ASYNC, 4, "@3\t2\n", 5),
-        (
-            "an entry with a zero",
-            executions(9),
-            &ASYNC,
-            4,
-            "@03\t1\n",
-            5,
-        ),
-        ("an absent vertex", executions(9), &ASYNC, 4, "@5\t1\n", 5),
-        ("a mark alone", executions(9), &ASYNC, 4, "@\n", 5),
-        ("a second value", executions(9), &ASYNC, 4, "@3\t1\t1\n", 5),
-        ("an entry past the fuel", executions(3), &ASYNC, 11, "", 6),
-        (
-            "an entry behind the last",
-            executions(4),
-            &ASYNC,
-            6,
-            "@1\t1\n1\t1\n",
-            7,
-        ),
-        ("a line behind the end", executions(4), &ASYNC, 11, "x", 12),
-    ];
-    for (what, job, lines, at, instead, line) in rows {
-        let text = text_with(rt.alloc(), lines, at, instead)?;
-        let found = find(
-            rt.alloc(),
-            &Components::new(),
-            job,
-            text.as_slice(),
-            999,
-            &[],
-        )?;
-        assert_eq!(rt; found, Ok(Verdict::Rejected { line }), "{what}");
+    for row in WRONG.split('\n') {
+        is_wrong_there(&rt, rt.alloc(), row)?;
+    }
+    Ok(())
+}
+
+/// The fuel of the job; entries, with an `=` between vertex and label; executions and gathers of the last line; the first wrong line, or 0.
+const JOURNALS: &str = "\
+9 | 2=1 1=1 3=1 4=1 | executions 4 gathers 6 | 0
+4 | 1=1 2=1 3=1 4=1 | executions 4 gathers 6 | 0
+9 | 1=1 3=2 2=1 4=2 3=1 4=1 | executions 6 gathers 9 | 0
+9 | 1=1 3=2 2=1 4=2 3=1 4=1 | executions 4 gathers 6 | 13
+9 | 1=1 3=1 2=1 4=1 | executions 4 gathers 6 | 4
+9 | 1=1 3=2 2=1 4=1 | executions 4 gathers 6 | 6";
+
+/// A report with these entries, and this behind `quiescent` in its last line.
+fn report_of(alloc: Global, entries: &str, took: &str) -> Result<Vec<u8>, AllocError> {
+    let mut text = text_of(alloc, &ASYNC[..2])?;
+    for entry in entries.split(' ') {
+        let entry = entry.replace(alloc, '=', "\t")?;
+        text.extend_from_slice(format!(in alloc; "@{entry}\n")?.as_bytes())?;
+    }
+    for line in &ASYNC[6..10] {
+        text.extend_from_slice(line.as_bytes())?;
+    }
+    text.extend_from_slice(format!(in alloc; "# quiescent {took}\n")?.as_bytes())?;
+    Ok(text)
+}
+
+/// The journal of one row of the table gets its verdict.
+fn has_its_verdict(rt: &impl Abort, alloc: Global, row: &str) -> Result<(), Fail> {
+    let mut columns = row.split(" | ");
+    if let Some(fuel) = columns.next()
+        && let Some(entries) = columns.next()
+        && let Some(took) = columns.next()
+        && let Some(line) = columns.next()
+    {
+        let text = report_of(alloc, entries, took)?;
+        let job = executions(number(rt, fuel));
+        let found = find(alloc, &Components::new(), job, text.as_slice(), 999, &[])?;
+        let line = number(rt, line) as u64;
+        let verdict = if line == 0 {
+            Verdict::Confirmed
+        } else {
+            Verdict::Rejected { line }
+        };
+        assert_eq!(rt; found, Ok(verdict), "{row}");
+    } else {
+        assert!(rt; false, "{row}");
     }
     Ok(())
 }
 
 #[test]
 fn any_legal_journal_is_right(rt: HostRuntime) -> Result<(), Fail> {
-    let four = "# quiescent executions 4 gathers 6\n";
-    let six = "# quiescent executions 6 gathers 9\n";
-    let right = Ok(Verdict::Confirmed);
-    let wrong = |line: u64| Ok(Verdict::Rejected { line });
-    let rows: [(&[&str], u32, &str, Result<Verdict, InputError>); 6] = [
-        (
-            &["@2\t1\n", "@1\t1\n", "@3\t1\n", "@4\t1\n"],
-            9,
-            four,
-            right,
-        ),
-        (
-            &["@1\t1\n", "@2\t1\n", "@3\t1\n", "@4\t1\n"],
-            4,
-            four,
-            right,
-        ),
-        (
-            &[
-                "@1\t1\n", "@3\t2\n", "@2\t1\n", "@4\t2\n", "@3\t1\n", "@4\t1\n",
-            ],
-            9,
-            six,
-            right,
-        ),
-        (
-            &[
-                "@1\t1\n", "@3\t2\n", "@2\t1\n", "@4\t2\n", "@3\t1\n", "@4\t1\n",
-            ],
-            9,
-            four,
-            wrong(13),
-        ),
-        (
-            &["@1\t1\n", "@3\t1\n", "@2\t1\n", "@4\t1\n"],
-            9,
-            four,
-            wrong(4),
-        ),
-        (
-            &["@1\t1\n", "@3\t2\n", "@2\t1\n", "@4\t1\n"],
-            9,
-            four,
-            wrong(6),
-        ),
-    ];
-    for (entries, fuel, last, verdict) in rows {
-        let mut report = Vec::new(rt.alloc());
-        report.extend_from_slice(&ASYNC[..2])?;
-        report.extend_from_slice(entries)?;
-        report.extend_from_slice(&ASYNC[6..10])?;
-        report.push(last)?;
-        let found = find_lines(
-            rt.alloc(),
-            &Components::new(),
-            executions(fuel),
-            report.as_slice(),
-        )?;
-        assert_eq!(rt; found, verdict, "{entries:?} {fuel}");
+    for row in JOURNALS.split('\n') {
+        has_its_verdict(&rt, rt.alloc(), row)?;
     }
     Ok(())
 }
 
+/// A check of the report of rounds within so many bytes, whose third line is this, finds so.
+fn finds_within(
+    rt: &impl Abort,
+    alloc: Global,
+    bytes: u64,
+    third: &str,
+    found: Result<Verdict, InputError>,
+) -> Result<(), Fail> {
+    assert!(rt; bytes < 1000);
+    let text = text_with(alloc, SYNC.as_slice(), 2, third)?;
+    let answer = find(
+        alloc,
+        &Components::new(),
+        rounds(),
+        text.as_slice(),
+        bytes,
+        &[],
+    )?;
+    assert_eq!(rt; answer, found, "{bytes}");
+    Ok(())
+}
+
+/// The limit of bytes is passed.
+fn past(limit: u64) -> Result<Verdict, InputError> {
+    let which = Which::Bytes;
+    Err(InputError::Limit { which, limit })
+}
+
+// The path takes 12 bytes, and the lines of the report 29, 29, 4, 4, 4, 4 and 45.
 #[test]
 fn the_limit_comes_before_the_comparison(rt: HostRuntime) -> Result<(), Fail> {
-    // The path takes 12 bytes, and the lines of the report 29, 29, 4, 4, 4, 4 and 45.
-    let over = |limit: u64| Err(InputError::Limit {
-        which: Which::Bytes,
-        limit,
-    });
+    let alloc = rt.alloc();
     let right = "1\t1\n";
-    let wrong = "1\t7\n";
-    let rows: [(u64, &str, Result<Verdict, InputError>); 7] = [
-        (11, right, over(11)),
-        (40, right, over(40)),
-        (69, right, over(69)),
-        (131, right, Ok(Verdict::Confirmed)),
-        (130, right, over(130)),
-        (74, wrong, Ok(Verdict::Rejected { line: 3 })),
-        (73, wrong, over(73)),
-    ];
-    for (bytes, third, found) in rows {
-        assert!(rt; bytes < 1000);
-        let text = text_with(rt.alloc(), SYNC.as_slice(), 2, third)?;
-        let answer = find(
-            rt.alloc(),
-            &Components::new(),
-            rounds(),
-            text.as_slice(),
-            bytes,
-            &[],
-        )?;
-        assert_eq!(rt; answer, found, "{bytes}");
+    for limit in [11, 40, 69, 130] {
+        finds_within(&rt, alloc, limit, right, past(limit))?;
     }
-    Ok(())
+    finds_within(&rt, alloc, 131, right, Ok(Verdict::Confirmed))?;
+    let wrong = "1\t7\n";
+    finds_within(&rt, alloc, 73, wrong, past(73))?;
+    let third = Verdict::Rejected { line: 3 };
+    finds_within(&rt, alloc, 74, wrong, Ok(third))
 }
 
 #[test]

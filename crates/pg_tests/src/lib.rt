@@ -13,3 +13,5 @@ mod report;
 mod reports;
 #[cfg(test)]
 mod rounds;
+#[cfg(test)]
+mod serial;

@@ -3,71 +3,120 @@
 use pg_base::{Failed, Limits, MemSink};
 use pg_graph::{BuildError, Graph, GraphBuilder};
 use pg_law::{Datum, EdgeWords, End, State};
-use pg_report::{LastLine, ReportLine, read_report_line, write_head, write_tail};
+use pg_report::{LastLine, read_report_line, write_head, write_tail};
 use pg_words::{EngineName, ProgramName};
 use std::alloc::{AllocError, Global};
+use std::process::Abort;
 use std::test::Fail;
+
+/// The report of this job begins so.
+fn begins(
+    rt: &impl Abort,
+    alloc: Global,
+    engine: EngineName,
+    program: ProgramName,
+    line: &str,
+) -> Result<(), Fail> {
+    let graph = path_of_four(alloc)?;
+    let mut sink = sink(alloc, 1000)?;
+    let written = write_head(&mut sink, engine, program, &graph);
+    let text = format!(in alloc; "{line}\n# vertices 4 edges 3 loops 1\n")?;
+    assert_eq!(rt; written, Ok(()), "{line}");
+    assert_eq!(rt; sink.bytes(), text.as_bytes(), "{line}");
+    Ok(())
+}
 
 #[test]
 fn a_report_begins_with_its_job_and_the_counts_of_the_graph(rt: HostRuntime) -> Result<(), Fail> {
-    let graph = path_of_four(rt.alloc())?;
-    let rows = [
-        (
-            EngineName::Sync,
-            ProgramName::Components,
-            "# pgreport 1 sync components\n# vertices 4 edges 3 loops 1\n",
-        ),
-        (
-            EngineName::Async,
-            ProgramName::Colour,
-            "# pgreport 1 async colour\n# vertices 4 edges 3 loops 1\n",
-        ),
-        (
-            EngineName::Sync,
-            ProgramName::Sssp { source: 4294967295 },
-            "# pgreport 1 sync sssp 4294967295\n# vertices 4 edges 3 loops 1\n",
-        ),
-        (
-            EngineName::Async,
-            ProgramName::Rank {
-                tolerance: 18446744073709551615,
-            },
-            "# pgreport 1 async rank 18446744073709551615\n# vertices 4 edges 3 loops 1\n",
-        ),
-        (
-            EngineName::Async,
-            ProgramName::Tree { source: 0 },
-            "# pgreport 1 async tree 0\n# vertices 4 edges 3 loops 1\n",
-        ),
-    ];
-    for (engine, program, text) in rows {
-        let mut sink = sink(rt.alloc(), 1000)?;
-        assert_eq!(rt;
-            write_head(&mut sink, engine, program, &graph),
-            Ok(()),
-            "{text}"
-        );
-        assert_eq!(rt; sink.bytes(), text.as_bytes(), "{text}");
-    }
+    let alloc = rt.alloc();
+    let (rounds, executions) = (EngineName::Sync, EngineName::Async);
+    let components = ProgramName::Components;
+    begins(
+        &rt,
+        alloc,
+        rounds,
+        components,
+        "# pgreport 1 sync components",
+    )?;
+    let colour = ProgramName::Colour;
+    begins(&rt, alloc, executions, colour, "# pgreport 1 async colour")?;
+    let paths = ProgramName::Sssp { source: u32::MAX };
+    begins(
+        &rt,
+        alloc,
+        rounds,
+        paths,
+        "# pgreport 1 sync sssp 4294967295",
+    )?;
+    let rank = ProgramName::Rank {
+        tolerance: u64::MAX,
+    };
+    let most = "# pgreport 1 async rank 18446744073709551615";
+    begins(&rt, alloc, executions, rank, most)?;
+    let tree = ProgramName::Tree { source: 0 };
+    begins(&rt, alloc, executions, tree, "# pgreport 1 async tree 0")
+}
+
+/// The report of a run of this program that left four vertices ends so.
+fn ends(
+    rt: &impl Abort,
+    alloc: Global,
+    program: ProgramName,
+    last: LastLine,
+    text: &str,
+) -> Result<(), Fail> {
+    let graph = path_of_four(alloc)?;
+    let left = [(1, 0, None), (1, 1, None), (1, 2, Some(7)), (4, 3, Some(1))];
+    let state = state_of(alloc, left.as_slice())?;
+    assert_eq!(rt; state.values.len(), graph.vertices() as usize);
+    assert_eq!(rt; state.messages.len(), graph.vertices() as usize);
+    let mut sink = sink(alloc, 1000)?;
+    let written = write_tail(&mut sink, program, &graph, &state, last);
+    assert_eq!(rt; written, Ok(()), "{text}");
+    assert_eq!(rt; sink.bytes(), text.as_bytes(), "{text}");
     Ok(())
 }
+
+const AFTER_ROUNDS: &str = "\
+1\t1
+2\t1
+3\t1
+4\t4
+?3\t7
+?4\t1
+# spent rounds 3 executions 6 gathers 18446744073709551615
+";
+
+const AFTER_EXECUTIONS: &str = "\
+1\t1
+2\t1
+3\t1
+4\t4
+?3\t7
+?4\t1
+# quiescent executions 4 gathers 6
+";
+
+const TREE: &str = "\
+1\t1\t0
+2\t1\t1
+3\t1\t2
+4\t4\t3
+?3\t7
+?4\t1
+# quiescent executions 4 gathers 6
+";
 
 #[test]
 fn a_report_ends_with_values_and_signals_and_what_the_run_took(
     rt: HostRuntime,
 ) -> Result<(), Fail> {
-    let graph = path_of_four(rt.alloc())?;
-    let state = state_of(
-        rt.alloc(),
-        &[(1, 0, None), (1, 1, None), (1, 2, Some(7)), (4, 3, Some(1))],
-    )?;
-    assert_eq!(rt; state.values.len(), graph.vertices() as usize);
-    assert_eq!(rt; state.messages.len(), graph.vertices() as usize);
+    let alloc = rt.alloc();
     let rounds = LastLine {
         end: End::Spent,
         rounds: Some(3),
         executions: 6,
-        gathers: 18446744073709551615,
+        gathers: u64::MAX,
     };
     let journal = LastLine {
         end: End::Quiescent,
@@ -75,33 +124,10 @@ fn a_report_ends_with_values_and_signals_and_what_the_run_took(
         executions: 4,
         gathers: 6,
     };
-    let rows = [
-        (
-            ProgramName::Components,
-            rounds,
-            "1\t1\n2\t1\n3\t1\n4\t4\n?3\t7\n?4\t1\n# spent rounds 3 executions 6 gathers 18446744073709551615\n",
-        ),
-        (
-            ProgramName::Components,
-            journal,
-            "1\t1\n2\t1\n3\t1\n4\t4\n?3\t7\n?4\t1\n# quiescent executions 4 gathers 6\n",
-        ),
-        (
-            ProgramName::Tree { source: 1 },
-            journal,
-            "1\t1\t0\n2\t1\t1\n3\t1\t2\n4\t4\t3\n?3\t7\n?4\t1\n# quiescent executions 4 gathers 6\n",
-        ),
-    ];
-    for (program, last, text) in rows {
-        let mut sink = sink(rt.alloc(), 1000)?;
-        assert_eq!(rt;
-            write_tail(&mut sink, program, &graph, &state, last),
-            Ok(()),
-            "{text}"
-        );
-        assert_eq!(rt; sink.bytes(), text.as_bytes(), "{text}");
-    }
-    Ok(())
+    let components = ProgramName::Components;
+    ends(&rt, alloc, components, rounds, AFTER_ROUNDS)?;
+    ends(&rt, alloc, components, journal, AFTER_EXECUTIONS)?;
+    ends(&rt, alloc, ProgramName::Tree { source: 1 }, journal, TREE)
 }
 
 #[test]
@@ -114,162 +140,96 @@ fn a_sink_without_room_fails_and_has_a_front(rt: HostRuntime) -> Result<(), Fail
     Ok(())
 }
 
-#[test]
-fn each_kind_of_line_is_read(rt: HostRuntime) -> Result<(), Fail> {
-    let rows = [
-        (
-            "# pgreport 1 async tree 7",
-            ReportLine::Head {
-                engine: EngineName::Async,
-                program: ProgramName::Tree { source: 7 },
-            },
-        ),
-        (
-            "# pgreport 1 sync colour",
-            ReportLine::Head {
-                engine: EngineName::Sync,
-                program: ProgramName::Colour,
-            },
-        ),
-        (
-            "# vertices 4294967295 edges 0 loops 18446744073709551615",
-            ReportLine::Counts {
-                vertices: 4294967295,
-                edges: 0,
-                loops: 18446744073709551615,
-            },
-        ),
-        (
-            "@4\t1",
-            ReportLine::Entry {
-                id: 4,
-                value: 1,
-                second: None,
-            },
-        ),
-        (
-            "@4\t2\t18446744073709551615",
-            ReportLine::Entry {
-                id: 4,
-                value: 2,
-                second: Some(18446744073709551615),
-            },
-        ),
-        (
-            "4294967295\t0",
-            ReportLine::Value {
-                id: 4294967295,
-                value: 0,
-                second: None,
-            },
-        ),
-        (
-            "0\t18446744073709551615\t10",
-            ReportLine::Value {
-                id: 0,
-                value: 18446744073709551615,
-                second: Some(10),
-            },
-        ),
-        ("?2\t0", ReportLine::Signal { id: 2, message: 0 }),
-    ];
-    for (text, said) in rows {
-        assert_eq!(rt; read_report_line(text.as_bytes()), Some(said), "{text}");
+/// Lines, and what they say.
+const LINES: &str = "\
+# pgreport 1 async tree 7 => Head { engine: Async, program: Tree { source: 7 } }
+# pgreport 1 sync colour => Head { engine: Sync, program: Colour }
+# vertices 4294967295 edges 0 loops 18446744073709551615 => Counts { vertices: 4294967295, edges: 0, loops: 18446744073709551615 }
+@4\t1 => Entry { id: 4, value: 1, second: None }
+@4\t2\t18446744073709551615 => Entry { id: 4, value: 2, second: Some(18446744073709551615) }
+4294967295\t0 => Value { id: 4294967295, value: 0, second: None }
+0\t18446744073709551615\t10 => Value { id: 0, value: 18446744073709551615, second: Some(10) }
+?2\t0 => Signal { id: 2, message: 0 }
+# quiescent executions 4 gathers 6 => Last { last: LastLine { end: Quiescent, rounds: None, executions: 4, gathers: 6 } }
+# spent executions 0 gathers 0 => Last { last: LastLine { end: Spent, rounds: None, executions: 0, gathers: 0 } }
+# quiescent rounds 0 executions 0 gathers 0 => Last { last: LastLine { end: Quiescent, rounds: Some(0), executions: 0, gathers: 0 } }
+# spent rounds 4294967295 executions 6 gathers 7 => Last { last: LastLine { end: Spent, rounds: Some(4294967295), executions: 6, gathers: 7 } }";
+
+const NO_LINES: &str = "\
+1 => none
+ => none
+1\t => none
+1 2 => none
+\t1 => none
+01\t1 => none
+1\t01 => none
+1\t1\t01 => none
+1\t1\t => none
+1\t1\t1\t1 => none
+1\t1  => none
+-1\t1 => none
+4294967296\t1 => none
+1\t18446744073709551616 => none
+1\t1\t18446744073709551616 => none
+@ => none
+@1 => none
+@@1\t1 => none
+@01\t1 => none
+?1\t1\t1 => none
+? 1\t1 => none
+# => none
+#  => none
+# pgreport 1 => none
+# pgreport 2 sync components => none
+# pgreport 1 sync => none
+# pgreport 1 serial components => none
+# pgreport 1 sync components  => none
+# pgreport 1 sync sssp => none
+# pgreport 1 sync sssp 07 => none
+# pgreport 1 sync sssp 4294967296 => none
+# pgreport 1 sync rank 18446744073709551616 => none
+# pgreport 1 sync colour 1 => none
+# vertices 1 edges 1 => none
+# vertices 1 edges 4294967296 loops 0 => none
+# vertices 1 edges 1 loops 0  => none
+# quiescent => none
+# quiescent rounds 1 => none
+# quiescent rounds 1 executions 1 => none
+# quiescent  executions 1 gathers 1 => none
+# quiescent rounds 4294967296 executions 1 gathers 1 => none
+# stopped executions 1 gathers 1 => none
+# Spent executions 1 gathers 1 => none";
+
+/// What a line says.
+fn said(alloc: Global, text: &str) -> Result<String, AllocError> {
+    match read_report_line(text.as_bytes()) {
+        Some(line) => format!(in alloc; "{line:?}"),
+        None => String::from_str(alloc, "none"),
+    }
+}
+
+/// Each line of a table says what stands behind its arrow.
+fn say_so(rt: &impl Abort, alloc: Global, table: &str) -> Result<(), Fail> {
+    for row in table.split('\n') {
+        if let Some((line, want)) = row.split_once(" => ") {
+            let said = said(alloc, line)?;
+            assert_eq!(rt; said.as_str(), want, "{line}");
+        } else {
+            assert!(rt; false, "{row}");
+        }
     }
     Ok(())
 }
 
 #[test]
-fn last_lines_are_read_with_and_without_rounds(rt: HostRuntime) -> Result<(), Fail> {
-    let rows = [
-        (
-            "# quiescent executions 4 gathers 6",
-            End::Quiescent,
-            None,
-            4,
-            6,
-        ),
-        ("# spent executions 0 gathers 0", End::Spent, None, 0, 0),
-        (
-            "# quiescent rounds 0 executions 0 gathers 0",
-            End::Quiescent,
-            Some(0),
-            0,
-            0,
-        ),
-        (
-            "# spent rounds 4294967295 executions 6 gathers 18446744073709551615",
-            End::Spent,
-            Some(4294967295),
-            6,
-            18446744073709551615,
-        ),
-    ];
-    for (text, end, rounds, executions, gathers) in rows {
-        let last = LastLine {
-            end,
-            rounds,
-            executions,
-            gathers,
-        };
-        let said = Some(ReportLine::Last { last });
-        assert_eq!(rt; read_report_line(text.as_bytes()), said, "{text}");
-    }
-    Ok(())
+fn each_kind_of_line_is_read(rt: HostRuntime) -> Result<(), Fail> {
+    say_so(&rt, rt.alloc(), LINES)
 }
 
 #[test]
 fn other_lines_are_none(rt: HostRuntime) -> Result<(), Fail> {
-    let rows = [
-        "",
-        "1",
-        "1\t",
-        "1 2",
-        "\t1",
-        "01\t1",
-        "1\t01",
-        "1\t1\t01",
-        "1\t1\t",
-        "1\t1\t1\t1",
-        "1\t1 ",
-        "1\t1\n",
-        "-1\t1",
-        "4294967296\t1",
-        "1\t18446744073709551616",
-        "1\t1\t18446744073709551616",
-        "@",
-        "@1",
-        "@@1\t1",
-        "@01\t1",
-        "?1\t1\t1",
-        "? 1\t1",
-        "#",
-        "# ",
-        "# pgreport 1",
-        "# pgreport 2 sync components",
-        "# pgreport 1 sync",
-        "# pgreport 1 serial components",
-        "# pgreport 1 sync components ",
-        "# pgreport 1 sync sssp",
-        "# pgreport 1 sync sssp 07",
-        "# pgreport 1 sync sssp 4294967296",
-        "# pgreport 1 sync rank 18446744073709551616",
-        "# pgreport 1 sync colour 1",
-        "# vertices 1 edges 1",
-        "# vertices 1 edges 4294967296 loops 0",
-        "# vertices 1 edges 1 loops 0 ",
-        "# quiescent",
-        "# quiescent rounds 1",
-        "# quiescent rounds 1 executions 1",
-        "# quiescent  executions 1 gathers 1",
-        "# quiescent rounds 4294967296 executions 1 gathers 1",
-        "# stopped executions 1 gathers 1",
-        "# Spent executions 1 gathers 1",
-    ];
-    for text in rows {
-        assert_eq!(rt; read_report_line(text.as_bytes()), None, "{text}");
-    }
-    Ok(())
+    assert_eq!(rt; read_report_line(b"1\t1\n"), None);
+    say_so(&rt, rt.alloc(), NO_LINES)
 }
 
 /// The path from 1 over 2 and 3 to 4, and a loop at 4.

@@ -164,14 +164,3 @@ pub fn text_with(
     }
     Ok(text)
 }
-
-/// What a check finds of these lines.
-pub fn find_lines<P: VertexProgram>(
-    alloc: Global,
-    program: &P,
-    job: RunJob,
-    lines: &[&str],
-) -> Result<Result<Verdict, InputError>, AllocError> {
-    let text = text_of(alloc, lines)?;
-    find(alloc, program, job, text.as_slice(), 999, &[])
-}
