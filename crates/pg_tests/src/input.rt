@@ -6,8 +6,9 @@ ghost use Rattle.pg_base.specs.Limits.{IsWithinStandard};
 use pg_base::{Limits, LineCutter, MemSource, SureSource};
 use pg_graph::{Edge, Graph};
 use pg_input::{InputError, Part, Which, read_graph, read_part};
-use pg_readers::{BadLine, Format};
+use pg_readers::Format;
 use std::alloc::{AllocError, Global};
+use std::process::Abort;
 use std::test::Fail;
 
 /// Reads a text that comes in pieces of so many bytes.
@@ -25,61 +26,125 @@ fn read(
     Ok(read_graph(alloc, format, limits, &mut SureSource::new(bytes, piece)))
 }
 
-fn ids_of(alloc: Global, graph: &Graph) -> Result<Vec<u32>, AllocError> {
-    let mut ids = Vec::new(alloc);
+/// The ids of a graph, each of its edges as `source>target*weight`, and its loops.
+fn told(alloc: Global, graph: &Graph) -> Result<String, AllocError> {
+    let mut told = String::new(alloc);
     for v in 0..graph.vertices() {
-        ids.push(graph.info(v).id)?;
+        let id = graph.info(v).id;
+        told.push_str(format!(in alloc; "{id} ")?.as_str())?;
     }
-    Ok(ids)
+    told.push('|')?;
+    for edge in graph.edges() {
+        let Edge { src, dst, weight } = edge;
+        told.push_str(format!(in alloc; " {src}>{dst}*{weight}")?.as_str())?;
+    }
+    let loops = graph.loops();
+    told.push_str(format!(in alloc; " | {loops}")?.as_str())?;
+    Ok(told)
 }
 
-fn edge(src: u32, dst: u32, weight: u32) -> Edge {
-    Edge { src, dst, weight }
+fn format_of(name: &str) -> Format {
+    match name {
+        "tsv" => Format::Tsv,
+        "adj" => Format::Adj,
+        _ => Format::Snap,
+    }
+}
+
+/// A format, a text with a `/` for each line feed, and its graph.
+const GRAPHS: &str = "\
+snap: => | | 0
+snap:# Directed graph: five.txt/# Five edges/# Nodes: 4 Edges: 5/# FromNodeId\tToNodeId/10\t20\r/10\t30\r/20\t30\r/30\t10\r/40\t10\r/ => 10 20 30 40 | 0>1*1 0>2*1 1>2*1 2>0*1 3>0*1 | 0
+snap:# Directed graph: comments.txt/# FromNodeId\tToNodeId/30\t10\r/10\t20\r/10\t20\r/40\t40\r/ => 10 20 30 40 | 2>0*1 0>1*1 0>1*1 | 1
+tsv:/\t007  8\t5\r => 7 8 | 0>1*5 | 0
+adj:1 2 2 3/2 0/3 1 1/9 0 => 1 2 3 9 | 0>1*1 0>2*1 2>0*1 | 0";
+
+/// A text in pieces of so many bytes has this graph.
+fn has_graph(
+    rt: &impl Abort,
+    alloc: Global,
+    format: Format,
+    text: &str,
+    piece: usize,
+    want: &str,
+) -> Result<(), Fail>
+    requires piece { 0 < piece }
+{
+    match read(alloc, format, Limits::standard(), text, piece)? {
+        Ok(graph) => {
+            let told = told(alloc, &graph)?;
+            assert_eq!(rt; told.as_str(), want, "{text}");
+        }
+        Err(error) => assert!(rt; false, "{text}: {error:?}"),
+    }
+    Ok(())
 }
 
 #[test]
 fn a_text_gives_its_graph_in_whatever_pieces_it_comes(rt: HostRuntime) -> Result<(), Fail> {
-    let five =
-        "# Directed graph: five.txt\n# Five edges\n# Nodes: 4 Edges: 5\n# FromNodeId\tToNodeId\n10\t20\r\n10\t30\r\n20\t30\r\n30\t10\r\n40\t10\r\n";
-    let five_edges = [
-        edge(0, 1, 1),
-        edge(0, 2, 1),
-        edge(1, 2, 1),
-        edge(2, 0, 1),
-        edge(3, 0, 1),
-    ];
-    let comments =
-        "# Directed graph: comments.txt\n# FromNodeId\tToNodeId\n30\t10\r\n10\t20\r\n10\t20\r\n40\t40\r\n";
-    let comments_edges = [edge(2, 0, 1), edge(0, 1, 1), edge(0, 1, 1)];
-    let rows: [(Format, &str, &[u32], &[Edge], u64); 5] = [
-        (Format::Snap, "", &[], &[], 0),
-        (Format::Snap, five, &[10, 20, 30, 40], &five_edges, 0),
-        (
-            Format::Snap,
-            comments,
-            &[10, 20, 30, 40],
-            &comments_edges,
-            1,
-        ),
-        (Format::Tsv, "\n\t007  8\t5\r", &[7, 8], &[edge(0, 1, 5)], 0),
-        (
-            Format::Adj,
-            "1 2 2 3\n2 0\n3 1 1\n9 0",
-            &[1, 2, 3, 9],
-            &[edge(0, 1, 1), edge(0, 2, 1), edge(2, 0, 1)],
-            0,
-        ),
-    ];
-    for (format, text, ids, edges, loops) in rows {
-        for piece in 1..4 {
-            match read(rt.alloc(), format, Limits::standard(), text, piece)? {
-                Ok(graph) => {
-                    assert_eq!(rt; ids_of(rt.alloc(), &graph)?.as_slice(), ids, "{text}");
-                    assert!(rt; graph.edges() == edges, "{text}");
-                    assert_eq!(rt; graph.loops(), loops, "{text}");
-                }
-                Err(error) => assert!(rt; false, "{text}: {error:?}"),
-            }
+    let alloc = rt.alloc();
+    for row in GRAPHS.split('\n') {
+        if let Some((format, rest)) = row.split_once(':')
+            && let Some((text, want)) = rest.split_once(" => ")
+        {
+            let format = format_of(format);
+            let text = text.replace(alloc, '/', "\n")?;
+            has_graph(&rt, alloc, format, text.as_str(), 1, want)?;
+            has_graph(&rt, alloc, format, text.as_str(), 2, want)?;
+            has_graph(&rt, alloc, format, text.as_str(), 3, want)?;
+        } else {
+            assert!(rt; false, "{row}");
+        }
+    }
+    Ok(())
+}
+
+/// A format, limits of vertices, edges and bytes, a text with a `/` for each line feed, and its first event.
+const EVENTS: &str = "\
+snap 9 9 99:1 2/3 4/7/ => Line { number: 3, kind: TooFew }
+snap 9 9 99:/# 1/4294967296 1/ => Line { number: 3, kind: BadNumber }
+adj 9 9 99:1 3 2 3 => Line { number: 1, kind: BadCount }
+adj 9 9 99:1 3 2 3 4 5 => Line { number: 1, kind: TooMany }
+adj 9 9 99:1 2 2 x => Line { number: 1, kind: BadNumber }
+tsv 9 9 99:1 2 3 4 => Line { number: 1, kind: TooMany }
+snap 2 9 99:1 2/3 4/7/ => Limit { which: Vertices, limit: 2 }
+snap 9 9 4:1 2/3 => Limit { which: Bytes, limit: 4 }
+snap 9 9 1:x/ => Limit { which: Bytes, limit: 1 }
+snap 9 9 2:x/1 2/ => Line { number: 1, kind: TooFew }
+snap 9 1 99:1 2/5 5/2 1/ => Limit { which: Edges, limit: 1 }
+adj 2 1 99:1 3 2 2 3/ => Limit { which: Edges, limit: 1 }
+adj 0 9 99:1 0/ => Limit { which: Vertices, limit: 0 }";
+
+/// A number of at most two digits.
+fn number(rt: &impl Abort, digits: Option<&str>) -> u32
+    ensures { result < 100 }
+{
+    match digits.and_then(|digits| digits.parse::<u32>().ok()) {
+        Some(number) if number < 100 => number,
+        _ => panic!(rt; "{digits:?}"),
+    }
+}
+
+/// A text is refused by this event. The first columns are its format and limits.
+fn is_refused(
+    rt: &impl Abort,
+    alloc: Global,
+    columns: &str,
+    text: &str,
+    event: &str,
+) -> Result<(), Fail> {
+    let mut columns = columns.split(' ');
+    let format = format_of(columns.next().unwrap_or("snap"));
+    let limits = Limits {
+        vertices: number(rt, columns.next()),
+        edges: number(rt, columns.next()),
+        bytes: number(rt, columns.next()) as u64,
+    };
+    match read(alloc, format, limits, text, 3)? {
+        Ok(_) => assert!(rt; false, "{text}"),
+        Err(error) => {
+            let told = format!(in alloc; "{error:?}")?;
+            assert_eq!(rt; told.as_str(), event, "{text}");
         }
     }
     Ok(())
@@ -87,53 +152,15 @@ fn a_text_gives_its_graph_in_whatever_pieces_it_comes(rt: HostRuntime) -> Result
 
 #[test]
 fn a_text_is_refused_by_its_first_event(rt: HostRuntime) -> Result<(), Fail> {
-    let bad = |number: u64, kind: BadLine| InputError::Line { number, kind };
-    let limit = |which: Which, limit: u64| InputError::Limit { which, limit };
-    let all = (4_194_304, 16_777_216, 1_073_741_824);
-    let rows: [(Format, (u32, u32, u64), &str, InputError); 13] = [
-        (Format::Snap, all, "1 2\n3 4\n7\n", bad(3, BadLine::TooFew)),
-        (
-            Format::Snap,
-            all,
-            "\n# 1\n4294967296 1\n",
-            bad(3, BadLine::BadNumber),
-        ),
-        (Format::Adj, all, "1 3 2 3", bad(1, BadLine::BadCount)),
-        (Format::Adj, all, "1 3 2 3 4 5", bad(1, BadLine::TooMany)),
-        (Format::Adj, all, "1 2 2 x", bad(1, BadLine::BadNumber)),
-        (Format::Tsv, all, "1 2 3 4", bad(1, BadLine::TooMany)),
-        (
-            Format::Snap,
-            (2, 9, 99),
-            "1 2\n3 4\n7\n",
-            limit(Which::Vertices, 2),
-        ),
-        (Format::Snap, (9, 9, 4), "1 2\n3", limit(Which::Bytes, 4)),
-        (Format::Snap, (9, 9, 1), "x\n", limit(Which::Bytes, 1)),
-        (Format::Snap, (9, 9, 2), "x\n1 2\n", bad(1, BadLine::TooFew)),
-        (
-            Format::Snap,
-            (9, 1, 99),
-            "1 2\n5 5\n2 1\n",
-            limit(Which::Edges, 1),
-        ),
-        (
-            Format::Adj,
-            (2, 1, 99),
-            "1 3 2 2 3\n",
-            limit(Which::Edges, 1),
-        ),
-        (Format::Adj, (0, 9, 99), "1 0\n", limit(Which::Vertices, 0)),
-    ];
-    for (format, (vertices, edges, bytes), text, event) in rows {
-        let limits = Limits {
-            vertices: vertices.min(4_194_304),
-            edges: edges.min(16_777_216),
-            bytes: bytes.min(1_073_741_824),
-        };
-        match read(rt.alloc(), format, limits, text, 3)? {
-            Ok(_) => assert!(rt; false, "{text}"),
-            Err(error) => assert_eq!(rt; error, event, "{text}"),
+    let alloc = rt.alloc();
+    for row in EVENTS.split('\n') {
+        if let Some((columns, rest)) = row.split_once(':')
+            && let Some((text, event)) = rest.split_once(" => ")
+        {
+            let text = text.replace(alloc, '/', "\n")?;
+            is_refused(&rt, alloc, columns, text.as_str(), event)?;
+        } else {
+            assert!(rt; false, "{row}");
         }
     }
     Ok(())
