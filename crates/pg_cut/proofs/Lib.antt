@@ -5,4 +5,5 @@ pub mod Kept
 pub mod Searching
 pub mod Appending
 pub mod Blocks
+pub mod Marking
 pub mod Replicas

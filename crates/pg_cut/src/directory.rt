@@ -1,12 +1,13 @@
-//! Where the keys of each block of numbers begin among ascending keys.
-ghost use Rattle.std.specs.Prelude.{◌≡◌, ◌<◌, ◌≤◌, ◌^◌, length, IfOk};
+//! Where the keys of each block of numbers begin among ascending keys, and which they are.
+ghost use Rattle.std.specs.Prelude.{◌≡◌, ℕ, ◌<◌, ◌≤◌, ◌^◌, ◌==◌, ◌||◌, length, IfOk};
 ghost use Rattle.std.specs.List.Sorted.{IsStrictlyIncreasing};
-ghost use Rattle.pg_cut.specs.Directory.{keys_below, blocks_of, directory};
+ghost use Rattle.pg_cut.specs.Directory.{keys_below, blocks_of, directory, AreMasks};
+ghost use Rattle.pg_cut.specs.WorkerSet.{has};
 
 use std::alloc::{AllocError, Global};
 
-/// How many numbers a block has: so few that its keys take 256 bytes at most, and so many that a
-/// directory is small. It is a power of two, so that the block of a number is a shift away.
+/// How many numbers a block has: a bit of a `u64` for each, so that the keys of a block below one
+/// of its numbers are counted at once.
 pub const BLOCK: usize = 64;
 
 /// The blocks up to that of the greatest key.
@@ -47,4 +48,27 @@ pub fn directory_of(alloc: Global, keys: &[u32]) -> Result<Vec<u32>, AllocError>
         starts.push(place as u32)?;
     }
     Ok(starts)
+}
+
+/// The bits of a block with one more.
+fn with_bit(mask: u64, bit: u32) -> u64
+    requires { bit < 64 }
+    ensures { (j : ℕ) → has result j ≡ (has mask j || (j == bit)) }
+{
+    mask | (1u64 << bit)
+}
+
+/// Which numbers of each block are keys, in one pass over the keys.
+pub fn masks_of(alloc: Global, keys: &[u32]) -> Result<Vec<u64>, AllocError>
+    requires { IsStrictlyIncreasing keys.now }
+    ensures { IfOk result (λ masks. AreMasks keys.now masks.items) }
+{
+    let mut masks = vec![in alloc; 0u64; blocks_up_to_last(keys)]?;
+    for i in 0..keys.len() {
+        let key = keys[i];
+        let block = key as usize / BLOCK;
+        let mask = masks[block];
+        masks[block] = with_bit(mask, key % BLOCK as u32);
+    }
+    Ok(masks)
 }

@@ -1,24 +1,27 @@
 //! Ascending numbers, and the search among them.
-ghost use Rattle.std.specs.Prelude.{◌≡◌, ℕ, ◌+◌, ◌-◌, ◌*◌, ◌<◌, ◌≤◌, ◌^◌, ◌↔◌, length};
+ghost use Rattle.std.specs.Prelude.{◌≡◌, ℕ, ◌+◌, ◌-◌, ◌*◌, ◌%◌, ◌<◌, ◌≤◌, ◌^◌, ◌↔◌, length, count_ones};
 ghost use Rattle.std.specs.Prelude.{slice_index, IfOk, IfSome, IsSome, Contains};
 ghost use Rattle.std.specs.List.Sorted.{IsStrictlyIncreasing};
 ghost use Rattle.pg_cut.specs.Keys.{IsKeys};
+ghost use Rattle.pg_cut.specs.WorkerSet.{has};
 
-use crate::directory::{BLOCK, directory_of};
+use crate::directory::{BLOCK, directory_of, masks_of};
 use pg_law::Steps;
 use std::alloc::{AllocError, Global};
-use std::marker::{Brand, Model};
+use std::marker::Model;
 use std::sync::ledger::Ledger;
 
 /// Ascending numbers, with a directory by blocks of 64 numbers.
 ///
 /// `starts[b]` is how many keys are below the block `b`, and `starts[b + 1]` how many are below its
-/// end. The directory takes 4 bytes for each 64 numbers up to the greatest key, whether they are
-/// keys or not.
+/// end. `masks[b]` has a bit for each number of the block `b` that is a key, the lowest for its
+/// first. Both take 12 bytes for each 64 numbers up to the greatest key, whether they are keys or
+/// not.
 #[derive(Drop)]
 pub struct Keys {
     numbers: Vec<u32>,
     starts: Vec<u32>,
+    masks: Vec<u64>,
 }
 
 impl Model for Keys {
@@ -29,7 +32,24 @@ impl Model for Keys {
 
     ghost view = { λ k. k.numbers.items };
 
-    ghost invariant = { λ k. IsIndexed k.numbers.items k.starts.items };
+    ghost invariant = { λ k. IsIndexed k.numbers.items k.starts.items k.masks.items };
+}
+
+/// Whether a number of a block is a key, by its place in the block.
+fn is_marked(mask: u64, bit: u32) -> bool
+    requires { bit < 64 }
+    ensures { result ≡ has mask bit }
+{
+    (mask >> bit) & 1 == 1
+}
+
+/// How many keys a block has below the number at a place of it.
+fn rank(mask: u64, bit: u32) -> u32
+    requires { bit < 64 }
+    ensures value { result ≡ count_ones (mask % 2 ^ bit) }
+    ensures few { result ≤ 64 }
+{
+    (mask % (1u64 << bit)).count_ones()
 }
 
 impl Keys {
@@ -40,7 +60,12 @@ impl Keys {
         ensures { IfOk result (λ keys. keys ≡ numbers.items) }
     {
         let starts = directory_of(alloc, numbers.as_slice())?;
-        Ok(Keys { numbers, starts })
+        let masks = masks_of(alloc, numbers.as_slice())?;
+        Ok(Keys {
+            numbers,
+            starts,
+            masks,
+        })
     }
 
     /// How many there are.
@@ -106,24 +131,24 @@ impl Keys {
         self.find_between(key, 0, self.len(), steps)
     }
 
-    /// The place of a key, by two looks into the directory and a search among the keys between,
-    /// which are at most 64. Where they are as many, all numbers of the block are keys, and none is
-    /// read. The steps go to a counter of its own, which takes no time.
+    /// The place of a key: the keys below its block, and those of the block below it, which are
+    /// counted by their bits. No key is read, and nothing is searched.
     pub fn place(&self, key: u32) -> Option<u32>
         ensures within { IfSome result (λ i. i < length self.now) }
         ensures key { IfSome result (λ i. slice_index self.now i ≡ key) }
         ensures found { IsSome result ↔ Contains self.now key }
     {
         let block = key as usize / BLOCK;
-        if block + 1 >= self.starts.len() {
+        if block >= self.masks.len() {
             return None;
         }
-        let from = self.starts[block];
-        let to = self.starts[block + 1];
-        if (to - from) as usize == BLOCK {
-            return Some(from + key % BLOCK as u32);
+        let mask = self.masks[block];
+        let bit = key % BLOCK as u32;
+        if is_marked(mask, bit) {
+            let start = self.starts[block];
+            Some(start + rank(mask, bit))
+        } else {
+            None
         }
-        let mut steps = Steps::<Brand>::new();
-        self.find_between(key, from, to, &mut steps)
     }
 }

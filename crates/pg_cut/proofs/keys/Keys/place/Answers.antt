@@ -1,38 +1,37 @@
-use Rattle.std.proofs.Common.{◌≡◌, ◌+◌, ◌%◌, ◌<◌, length, get_or, refl, arith, ◌∙◌}
+use Rattle.std.proofs.Common.{◌+◌, ◌/◌, ◌<◌, length, get_or, refl, sym, arith, ◌∙◌, ap}
 use Rattle.std.proofs.lemmas.Bool.{false≢true}
 use Rattle.std.proofs.lemmas.List.{get_or_default}
-use Rattle.pg_cut.proofs.Blocks.{none_beyond, to_within, from-le-to, before_block, after_block, in_full_block}
+use Rattle.pg_cut.proofs.Blocks.{has_start, none_beyond, unmarked, few_below, place_found}
 use Rattle.pg_cut.proofs.keys.Keys.place.Goals as goal
 
 pub returns-then-block-len-clause-found : goal.returns-then-block-len-clause-found
 returns-then-block-len-clause-found c = rw (← c.self.view_is)
-    (λ e. absurd (false≢true e), λ has. absurd (none_beyond c.self.inside.numbers.items c.self.inside.starts.items c.self.invariant c.args.key (omega arith) has))
+    (λ e. absurd (false≢true e), λ has_key. absurd (none_beyond c.self.inside.numbers.items c.self.inside.starts.items c.self.inside.masks.items c.self.invariant c.args.key (omega arith) has_key))
 
-pub overflow_sub-to : goal.overflow_sub-to
-overflow_sub-to c = from-le-to c.self.inside.numbers.items c.self.inside.starts.items c.self.invariant c.args.key c.index-from.result.now c.index-to.result.now (omega arith) c.index-from.ensures c.index-to.ensures
+pub returns-else-is_marked-clause-found : goal.returns-else-is_marked-clause-found
+returns-else-is_marked-clause-found c = rw (← c.self.view_is)
+    (λ e. absurd (false≢true e), λ has_key. absurd (unmarked c.self.inside.numbers.items c.self.inside.starts.items c.self.inside.masks.items c.self.invariant c.args.key c.index-mask.result.now (omega arith) c.index-mask.ensures (sym c.is_marked.ensures ∙ c.if-is_marked.false) has_key))
 
-module _ (c : goal.Then-to-from-eq-BLOCK) where
-  within : c.index-from.result.now + c.args.key % 64 < length c.self.inside.numbers.items
-  within = omega (arith, to_within c.self.inside.numbers.items c.self.inside.starts.items c.self.invariant c.args.key c.index-from.result.now c.index-to.result.now (omega arith) c.index-from.ensures c.index-to.ensures)
+pub index-start-requires : goal.index-start-requires
+index-start-requires c = omega (arith, has_start c.self.inside.numbers.items c.self.inside.starts.items c.self.inside.masks.items c.self.invariant (c.args.key / 64) (omega arith))
 
-  here : get_or c.self.inside.numbers.items (c.index-from.result.now + c.args.key % 64) 0 ≡ c.args.key
-  here = in_full_block c.self.inside.numbers.items c.self.inside.starts.items c.self.invariant c.args.key c.index-from.result.now c.index-to.result.now (omega arith) c.index-from.ensures c.index-to.ensures c.if-to-from-eq-BLOCK.true
+pub overflow_add-result : goal.overflow_add-result
+overflow_add-result c = let few = few_below c.self.inside.numbers.items c.self.inside.starts.items c.self.inside.masks.items c.self.invariant c.args.key c.index-mask.result.now (omega arith) c.index-mask.ensures c.index-start.result.now c.index-start.ensures in
+    omega (arith, few, c.rank.ensures.value)
 
-pub returns-then-to-from-eq-BLOCK-clause-within : goal.returns-then-to-from-eq-BLOCK-clause-within
-returns-then-to-from-eq-BLOCK-clause-within c = rw (← c.self.view_is) (within c)
+pub returns-then-is_marked-clause-within : goal.returns-then-is_marked-clause-within
+returns-then-is_marked-clause-within c =
+    let found = place_found c.self.inside.numbers.items c.self.inside.starts.items c.self.inside.masks.items c.self.invariant c.args.key c.index-mask.result.now (omega arith) c.index-mask.ensures c.index-start.result.now c.index-start.ensures (sym c.is_marked.ensures ∙ c.if-is_marked.true) in
+    rw (← c.self.view_is) (omega (arith, found.0, c.rank.ensures.value))
 
-pub returns-then-to-from-eq-BLOCK-clause-key : goal.returns-then-to-from-eq-BLOCK-clause-key
-returns-then-to-from-eq-BLOCK-clause-key c = rw (← c.self.view_is) (here c)
+pub returns-then-is_marked-clause-key : goal.returns-then-is_marked-clause-key
+returns-then-is_marked-clause-key c =
+    let found = place_found c.self.inside.numbers.items c.self.inside.starts.items c.self.inside.masks.items c.self.invariant c.args.key c.index-mask.result.now (omega arith) c.index-mask.ensures c.index-start.result.now c.index-start.ensures (sym c.is_marked.ensures ∙ c.if-is_marked.true) in
+    rw (← c.self.view_is) (ap (λ n. get_or c.self.inside.numbers.items (c.index-start.result.now + n) 0) c.rank.ensures.value ∙ found.1)
 
-pub returns-then-to-from-eq-BLOCK-clause-found : goal.returns-then-to-from-eq-BLOCK-clause-found
-returns-then-to-from-eq-BLOCK-clause-found c = let place = c.index-from.result.now + c.args.key % 64 in
-    rw (← c.self.view_is) (λ _. (place, within c, get_or_default c.self.inside.numbers.items place c.args.key 0 (within c) ∙ here c), λ _. refl)
-
-pub find_between-requires-clause-within : goal.find_between-requires-clause-within
-find_between-requires-clause-within c = rw (← c.self.view_is) (to_within c.self.inside.numbers.items c.self.inside.starts.items c.self.invariant c.args.key c.index-from.result.now c.index-to.result.now (omega arith) c.index-from.ensures c.index-to.ensures)
-
-pub find_between-requires-clause-before : goal.find_between-requires-clause-before
-find_between-requires-clause-before c = rw (← c.self.view_is) (before_block c.self.inside.numbers.items c.self.inside.starts.items c.self.invariant c.args.key c.index-from.result.now c.index-to.result.now (omega arith) c.index-from.ensures c.index-to.ensures)
-
-pub find_between-requires-clause-after : goal.find_between-requires-clause-after
-find_between-requires-clause-after c = rw (← c.self.view_is) (after_block c.self.inside.numbers.items c.self.inside.starts.items c.self.invariant c.args.key c.index-from.result.now c.index-to.result.now (omega arith) c.index-from.ensures c.index-to.ensures)
+pub returns-then-is_marked-clause-found : goal.returns-then-is_marked-clause-found
+returns-then-is_marked-clause-found c =
+    let found = place_found c.self.inside.numbers.items c.self.inside.starts.items c.self.inside.masks.items c.self.invariant c.args.key c.index-mask.result.now (omega arith) c.index-mask.ensures c.index-start.result.now c.index-start.ensures (sym c.is_marked.ensures ∙ c.if-is_marked.true) in
+    let place = c.index-start.result.now + c.rank.result in
+    let within : place < length c.self.inside.numbers.items = omega (arith, found.0, c.rank.ensures.value) in
+    rw (← c.self.view_is) (λ _. (place, within, get_or_default c.self.inside.numbers.items place c.args.key 0 within ∙ ap (λ n. get_or c.self.inside.numbers.items (c.index-start.result.now + n) 0) c.rank.ensures.value ∙ found.1), λ _. refl)
