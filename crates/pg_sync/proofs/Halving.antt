@@ -1,5 +1,5 @@
 -- The second half of a round, by workers that hold a state.
-use Rattle.std.proofs.Common.{◌≡◌, ◌≢◌, ℕ, zero, suc, ◌+◌, ◌<◌, ◌≤◌, ◌⊎◌, inl, inr, true, Option, Some, None, Ok, Err, List, [], ◌∷◌, length, get_or, map, refl, sym, subst, ◌∙◌, ap, arith}
+use Rattle.std.proofs.Common.{◌≡◌, ◌≢◌, ℕ, zero, suc, ◌+◌, ◌<◌, ◌≤◌, ◌⊎◌, inl, inr, Bool, true, false, Option, Some, None, Ok, Err, List, [], ◌∷◌, length, get_or, map, refl, sym, subst, ◌∙◌, ap, arith}
 use Rattle.std.specs.Prelude.{All, AllPairs, IfOk, OnOk, Vec, Result}
 use Rattle.std.specs.List.{range_with_len}
 use Rattle.std.specs.declared.alloc.Global.{Global}
@@ -28,12 +28,13 @@ use Rattle.pg_gather.specs.Shares.{IsShareOf}
 use Rattle.pg_gather.proofs.Sharing.{readable}
 use Rattle.pg_apply_scatter.specs.declared.sent.Sent.{Sent}
 use Rattle.pg_apply_scatter.specs.Pushing.{table_at, ArePushed}
-use Rattle.pg_apply_scatter.specs.Sending.{IsSentIn, sent_from}
+use Rattle.pg_apply_scatter.specs.Sending.{IsSentIn, sent_from, listing}
 use Rattle.pg_apply_scatter.specs.Applying.{applied_by}
 use Rattle.pg_apply_scatter.specs.Halves.{entry_of, became_by, data_of, applied_state, applied_round, store_after, sent_by_all, AreCarriesOf, AreRounded}
 use Rattle.pg_delta.specs.declared.cell.CacheCell.{CacheCell}
 use Rattle.pg_delta.specs.Cell.{posted}
 use Rattle.pg_apply_scatter.specs.Delivering.{message_from, cell_in, cell_from, AreCombined, ArePosted, AreCellsOf}
+use Rattle.pg_apply_scatter.proofs.Listing.{listing_own, signals_are_enough}
 use Rattle.pg_apply_scatter.proofs.Visiting.{sent_own}
 use Rattle.pg_apply_scatter.proofs.Caching.{cell_posted}
 use Rattle.pg_apply_scatter.proofs.Rounding.{parts_are_a_round}
@@ -77,6 +78,24 @@ all_sent {Acc = Acc} X (list ∷ lists) (worker ∷ mid) taken zero d h on =
     let On : Result (Vec (Sent Acc) Global) AllocError → Type 0 = λ r. OnOk r X in
     subst On (sym first) on
 all_sent X (list ∷ lists) (worker ∷ mid) taken (suc w) d h on = all_sent X lists mid (cc) w d (omega (arith, h)) on
+
+-- with its deltas all that is sent is listed
+listed_each : {Acc : Type 0} (lists : List (List (Sent Acc))) → map (listing true) lists ≡ lists
+listed_each [] = refl
+listed_each (list ∷ lists) = ap (λ xs. list ∷ xs) (listed_each lists)
+
+listed_all : {Acc : Type 0} (deltas : Bool) (lists : List (List (Sent Acc))) → deltas ≡ true → map (listing deltas) lists ≡ lists
+listed_all deltas lists all = ap (λ b. map (listing b) lists) all ∙ listed_each lists
+
+-- what is listed of each worker's, one worker after another
+listed_by : {Acc : Type 0} (deltas : Bool) (f : ℕ → List (Sent Acc)) (ws : List ℕ) → map (λ w. listing deltas (f w)) ws ≡ map (listing deltas) (map f ws)
+listed_by deltas f [] = refl
+listed_by deltas f (w ∷ ws) = ap (λ xs. listing deltas (f w) ∷ xs) (listed_by deltas f ws)
+
+-- the messages that come of what is listed are those that come of all that is sent
+listed_enough : {Acc Carry : Type 0} (p : Program Acc Carry) (deltas : Bool) (v : ℕ) (m : Option ℕ) (lists : List (List (Sent Acc))) → message_from p v m (map (listing deltas) lists) ≡ message_from p v m lists
+listed_enough p true v m lists = ap (message_from p v m) (listed_each lists)
+listed_enough p false v m lists = signals_are_enough p v m lists
 
 module _ {Acc Carry : Type 0} (p : Program Acc Carry) (law : IsLawful p) (g : Multigraph) (ok : IsMultigraph g) (cut : Division) (is : IsCutOf g cut) (s : Configuration)
     (workers : List (Scattering Acc)) (old : List Mirrors) (before : Masters Carry) (held : IsHeld p g cut s workers old before.values.items before.messages.items)
@@ -200,28 +219,35 @@ module _ {Acc Carry : Type 0} (p : Program Acc Carry) (law : IsLawful p) (g : Mu
         made : length (messages_after p g s.messages became) ≡ length g.ids
         made = length-map-range_with_len (λ u. message_after (message_in s.messages u) (became_at became u)) 0 (length g.ids)
 
-    module _ (mirrors : List Mirrors) (pushed : ArePushed old mirrors (data_of applied)) (mid : List (Scattering Acc)) (lists : List (Vec (Sent Acc) Global)) (mid_count : length mid ≡ length workers)
-        (taken : map ok_of lists ≡ map (λ worker. worker.sent) mid) (scattered : (w : ℕ) (d : Scattering Acc) → w < length workers → HasScattered p g (table_at mirrors w) after.carries.items (get_or workers w d) (get_or mid w d)) where
-      -- all that was sent
-      lists_sent : lists_in lists ≡ sent_by_all p g cut after.carries.items (store_at workers) (table_at mirrors)
-      lists_sent = sent_taken f 0 lists mid taken each ∙ ap (λ n. map f (range_with_len 0 n)) (mid_count ∙ held.stores)
+    module _ (mirrors : List Mirrors) (pushed : ArePushed old mirrors (data_of applied)) (deltas : Bool) (mid : List (Scattering Acc)) (lists : List (Vec (Sent Acc) Global)) (mid_count : length mid ≡ length workers)
+        (taken : map ok_of lists ≡ map (λ worker. worker.sent) mid) (scattered : (w : ℕ) (d : Scattering Acc) → w < length workers → HasScattered p g (table_at mirrors w) after.carries.items deltas (get_or workers w d) (get_or mid w d)) where
+      abbrev sent_of : ℕ → List (Sent Acc)
+      sent_of w = sent_from p g (table_at mirrors w) after.carries.items (store_at workers w)
+
+      -- what each worker listed
+      lists_listed : lists_in lists ≡ map (λ w. listing deltas (sent_of w)) (range_with_len 0 cut.workers)
+      lists_listed = sent_taken f 0 lists mid taken each ∙ ap (λ n. map f (range_with_len 0 n)) (mid_count ∙ held.stores)
         where
           f : ℕ → List (Sent Acc)
-          f w = sent_from p g (table_at mirrors w) after.carries.items (store_at workers w)
+          f w = listing deltas (sent_of w)
 
-          each : (w : ℕ) (d : Scattering Acc) → w < length mid → IfOk (get_or mid w d).sent (λ sent. sent.items ≡ sent_from p g (table_at mirrors (0 + w)) after.carries.items (store_at workers (0 + w)))
+          each : (w : ℕ) (d : Scattering Acc) → w < length mid → IfOk (get_or mid w d).sent (λ sent. sent.items ≡ f (0 + w))
           each w d h = let below : w < length workers = omega (arith, h, mid_count) in
-              let At : Scattering Acc → Type 0 = λ worker. IfOk (get_or mid w d).sent (λ sent. sent.items ≡ sent_from p g (table_at mirrors w) after.carries.items worker.store) in
+              let At : Scattering Acc → Type 0 = λ worker. IfOk (get_or mid w d).sent (λ sent. sent.items ≡ listing deltas (sent_from p g (table_at mirrors w) after.carries.items worker.store)) in
               let here = subst At (get_or_default workers w d no_worker below) (scattered w d below).sent in
-              let From : ℕ → Type 0 = λ k. IfOk (get_or mid w d).sent (λ sent. sent.items ≡ sent_from p g (table_at mirrors k) after.carries.items (store_at workers k)) in
+              let From : ℕ → Type 0 = λ k. IfOk (get_or mid w d).sent (λ sent. sent.items ≡ f k) in
               let e : w ≡ 0 + w = omega arith in
               subst From e here
 
+      -- all that was sent, as far as it is listed
+      lists_sent : lists_in lists ≡ map (listing deltas) (sent_by_all p g cut after.carries.items (store_at workers) (table_at mirrors))
+      lists_sent = lists_listed ∙ listed_by deltas sent_of (range_with_len 0 cut.workers)
+
       pub lists_own : All (All (IsSentIn p (length g.ids))) (lists_in lists)
-      lists_own = rw lists_sent (All-map (All (IsSentIn p (length g.ids))) (λ w. sent_from p g (table_at mirrors w) after.carries.items (store_at workers w)) (range_with_len 0 cut.workers)
+      lists_own = rw lists_listed (All-map (All (IsSentIn p (length g.ids))) (λ w. listing deltas (sent_of w)) (range_with_len 0 cut.workers)
           (λ i d h. let w = get_or (range_with_len 0 cut.workers) i d in
           let reads = readable_at mirrors pushed w (numbers_below cut.workers i d h) in
-          sent_own p g law ok (table_at mirrors w) after.carries.items (record { ascending = reads.ascending; values = reads.values }) carries_own (store_at workers w) reads))
+          listing_own p (length g.ids) deltas (sent_of w) (sent_own p g law ok (table_at mirrors w) after.carries.items (record { ascending = reads.ascending; values = reads.values }) carries_own (store_at workers w) reads)))
 
       store_left : (w : ℕ) → w < cut.workers → (get_or mid w no_worker).store ≡ store_after p g (table_at mirrors w) after.carries.items (store_at workers w)
       store_left w h = let below : w < length workers = omega (arith, h, held.stores) in
@@ -240,7 +266,8 @@ module _ {Acc Carry : Type 0} (p : Program Acc Carry) (law : IsLawful p) (g : Mu
         values = values_written ∙ ap (values_after p g s.values) became_is;
         messages = ext_get_or None waiting (round p g s).messages (count_kept ∙ ap length messages_written ∙ messages_count ∙ sym round_count)
             (λ v h. let below : v < length g.ids = omega (arith, h, count_kept, ap length messages_written, messages_count) in
-            combined v (omega (arith, h, count_kept)) ∙ ap (message_from p v (message_in after.messages.items v)) lists_sent ∙ ap (λ ms. message_from p v (message_in ms v) (sent_by_all p g cut after.carries.items (store_at workers) (table_at mirrors))) (messages_written ∙ ap (messages_after p g s.messages) became_is) ∙ rounded.messages v below);
+            combined v (omega (arith, h, count_kept)) ∙ ap (message_from p v (message_in after.messages.items v)) lists_sent
+            ∙ listed_enough p deltas v (message_in after.messages.items v) (sent_by_all p g cut after.carries.items (store_at workers) (table_at mirrors)) ∙ ap (λ ms. message_from p v (message_in ms v) (sent_by_all p g cut after.carries.items (store_at workers) (table_at mirrors))) (messages_written ∙ ap (messages_after p g s.messages) became_is) ∙ rounded.messages v below);
       }
         where
           last_count : length last ≡ length mid
@@ -261,10 +288,10 @@ module _ {Acc Carry : Type 0} (p : Program Acc Carry) (law : IsLawful p) (g : Mu
               (let Carried : List (ℕ × Applied Carry) → Type 0 = λ xs. AreCarriesOf after.carries.items (became_by g xs) in subst Carried applies carries_of)
 
       -- the cells have all posted that a round sends to their vertices
-      pub cells_told : (speaks : KeepsGathers p) (cells last : List (CacheCell Acc)) → AreCellsOf p cells → ArePosted p (lists_in lists) cells last → AreTold p g s cells last
-      cells_told speaks cells last own posts v h =
+      pub cells_told : (speaks : KeepsGathers p) (cells last : List (CacheCell Acc)) → (0 < length cells → deltas ≡ true) → AreCellsOf p cells → ArePosted p (lists_in lists) cells last → AreTold p g s cells last
+      cells_told speaks cells last all own posts v h =
           let Carried : List (Option (Applied Carry)) → Type 0 = λ b. AreCarriesOf after.carries.items b in
           let Shared : List (Option (Applied Carry)) → Type 0 = λ b. (w : ℕ) → w < cut.workers → IsShareOf g cut w (applied_state p g s b) (store_at workers w) (table_at mirrors w) in
-          posts v h ∙ ap (cell_from p v (cell_in cells v)) lists_sent
+          posts v h ∙ ap (cell_from p v (cell_in cells v)) (lists_sent ∙ listed_all deltas (sent_by_all p g cut after.carries.items (store_at workers) (table_at mirrors)) (all (omega (arith, h))))
           ∙ cell_posted p law speaks g ok s held.fit cut after.carries.items (store_at workers) (table_at mirrors) (cell_in cells v) is (subst Carried became_is carries_of) (subst Shared became_is (share_pushed mirrors pushed)) (own v h).pending v
           ∙ ap (posted p.sum (cell_in cells v)) (sym (delta_is p law g ok s held.fit speaks v))

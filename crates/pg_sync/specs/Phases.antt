@@ -1,5 +1,5 @@
 -- What the two phases leave of each worker.
-use Rattle.std.specs.Prelude.{◌≡◌, ℕ, ◌+◌, ◌<◌, List, length, slice_index_or, Option, Some, Vec, All, IfOk, OnOk, IfSome, IsSome}
+use Rattle.std.specs.Prelude.{◌≡◌, ℕ, ◌+◌, ◌<◌, Bool, List, length, slice_index_or, Option, Some, Vec, All, IfOk, OnOk, IfSome, IsSome}
 use Rattle.std.specs.declared.alloc.Global.{Global}
 use Rattle.pg_graph.specs.Multigraph.{Multigraph}
 use Rattle.pg_law.specs.Program.{Program}
@@ -7,7 +7,7 @@ use Rattle.pg_edge_store.specs.Store.{Store}
 use Rattle.pg_mirrors.specs.Mirrors.{Mirrors}
 use Rattle.pg_gather.specs.Partials.{IsReadable, partial_sums, gathers_here}
 use Rattle.pg_apply_scatter.specs.Pushing.{table_at}
-use Rattle.pg_apply_scatter.specs.Sending.{sent_from, IsSentIn}
+use Rattle.pg_apply_scatter.specs.Sending.{sent_from, listing, IsSentIn}
 use Rattle.pg_apply_scatter.specs.Halves.{store_after}
 use Rattle.pg_sync.specs.declared.worker.Scattering.{Scattering}
 
@@ -25,10 +25,12 @@ module _ {Acc Carry : Type 0} (p : Program Acc Carry) (g : Multigraph) (s : Stor
         → new.0 ≡ Some (n + gathers_here p g s m wanted)
 
 module _ {Acc Carry : Type 0} (p : Program Acc Carry) (g : Multigraph) (m : Mirrors) where
-  -- what the worker sends over its own edges, and its words after
-  pub record HasScattered (carries : List (Option Carry)) (old new : Scattering Acc) : Type 0 where
+  -- what the worker sends over its own edges, or the signals of that alone, and its words after
+  pub record HasScattered (carries : List (Option Carry)) (with_deltas : Bool)
+      (old new : Scattering Acc) : Type 0 where
     pub store : OnOk new.sent (new.store ≡ store_after p g m carries old.store)
-    pub sent : IfOk new.sent (λ sent. sent.items ≡ sent_from p g m carries old.store)
+    pub sent : IfOk new.sent (λ sent.
+        sent.items ≡ listing with_deltas (sent_from p g m carries old.store))
     pub own : IfOk new.sent (λ sent. All (IsSentIn p (length g.ids)) sent.items)
 
 -- each worker can read its own edges through its own replicas

@@ -1,5 +1,5 @@
 //! The two halves of a round.
-ghost use Rattle.std.specs.Prelude.{◌≡◌, ◌≢◌, ◌<◌, [], length, map, filter, is_some, sum_by, All, AllPairs, IfOk, OnOk, IsSome, IsTrue};
+ghost use Rattle.std.specs.Prelude.{◌≡◌, ◌≢◌, ◌<◌, ◌↔◌, [], length, map, filter, is_some, sum_by, All, AllPairs, IfOk, OnOk, IsSome, IsTrue};
 ghost use Rattle.pg_graph.specs.Multigraph.{vertices};
 ghost use Rattle.pg_law.specs.Configuration.{Configuration, message_in};
 ghost use Rattle.pg_law.specs.Round.{fresh, round};
@@ -214,8 +214,15 @@ pub fn apply_part<R: Threads + Sync, P: VertexProgram, G: Gate, L: Ledger + Send
     }
 }
 
+/// Whether gathers are kept, so that somebody asks for deltas.
+fn are_kept<A>(cells: &[CacheCell<A>]) -> bool
+    ensures { IsTrue result ↔ (0 < length cells.now) }
+{
+    !cells.is_empty()
+}
+
 /// Those that applied are written and pushed, all workers scatter, and the masters receive: their
-/// messages the signals, and their cells the deltas.
+/// messages the signals, and their cells the deltas. Without cells no delta is listed.
 pub fn scatter_part<R: Threads + Sync, P: VertexProgram>(
     rt: &R,
     alloc: Global,
@@ -252,6 +259,7 @@ pub fn scatter_part<R: Threads + Sync, P: VertexProgram>(
     masters.write(applied);
     let pairs = data_of_applied(alloc, applied)?;
     push_mirrors(pairs.as_slice(), mirrors);
+    let with_deltas = are_kept(cells);
     scatter_phase(
         rt,
         alloc,
@@ -260,6 +268,7 @@ pub fn scatter_part<R: Threads + Sync, P: VertexProgram>(
         workers,
         mirrors,
         masters.carries.as_slice(),
+        with_deltas,
     );
     let lists = sent_of(alloc, workers)?;
     let messages = masters.messages.as_mut_slice();

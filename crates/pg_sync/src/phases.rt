@@ -72,7 +72,8 @@ pub fn gather_phase<R: Threads + Sync, P: VertexProgram, G: Gate, L: Ledger + Se
     }
 }
 
-/// Every worker scatters for the vertices with a carry, in a thread of its own.
+/// Every worker scatters for the vertices with a carry, in a thread of its own. What it sends is
+/// listed with its deltas, or the signals alone.
 pub fn scatter_phase<R: Threads + Sync, P: VertexProgram>(
     rt: &R,
     alloc: Global,
@@ -81,13 +82,14 @@ pub fn scatter_phase<R: Threads + Sync, P: VertexProgram>(
     scatterings: &mut [Scattering<P::Acc>],
     mirrors: &[MirrorTable],
     carries: &[Option<P::Carry>],
+    with_deltas: bool,
 )
     requires tables { length mirrors.now ≡ length scatterings.old }
     requires readable { AreReadable (P.meaning program.now) graph.now scatterings.old mirrors.now }
     requires carries { AreCarries (P.meaning program.now) graph.now carries.now }
     ensures { let p = P.meaning program.now in
         (w : ℕ) (d : Scattering P.Acc) → w < length scatterings.old →
-        HasScattered p graph.now (table_at mirrors.now w) carries.now
+        HasScattered p graph.now (table_at mirrors.now w) carries.now with_deltas
         (slice_index_or scatterings.old w d) (slice_index_or scatterings.new w d) }
 {
     if !scatterings.is_empty() {
@@ -102,10 +104,10 @@ pub fn scatter_phase<R: Threads + Sync, P: VertexProgram>(
                     (table_at mirrors.now w)) ×
                     (AreCarries (P.meaning program.now) graph.now carries.now) }
                 ensures { HasScattered (P.meaning program.entry.now) graph.entry.now
-                    (table_at mirrors.entry.now w) carries.entry.now
+                    (table_at mirrors.entry.now w) carries.entry.now with_deltas
                     one.entry.now one.exit.now }
             {
-                one.scatter(alloc, program, graph, &mirrors[w], carries);
+                one.scatter(alloc, program, graph, &mirrors[w], carries, with_deltas);
             },
         );
     }

@@ -1,9 +1,11 @@
 //! One worker: what it owns in each phase, and what it does there.
-ghost use Rattle.std.specs.Prelude.{IsSome};
+ghost use Rattle.std.specs.Prelude.{◌≡◌, length, All, IfOk, OnOk, IsSome};
+ghost use Rattle.pg_law.specs.Carries.{AreCarries};
 ghost use Rattle.pg_gather.specs.Partials.{IsReadable};
+ghost use Rattle.pg_apply_scatter.specs.Sending.{IsSentIn, words_after, sent_from, listing};
 ghost use Rattle.pg_sync.specs.Phases.{HasGathered};
 
-use pg_apply_scatter::{Sent, scatter_worker};
+use pg_apply_scatter::{Sent, scatter_signals, scatter_worker};
 use pg_edge_store::EdgeStore;
 use pg_gather::partial_sums;
 use pg_graph::Graph;
@@ -43,12 +45,40 @@ pub fn gather<P: VertexProgram, L: Ledger>(
     }
 }
 
+/// What a worker sends over its own edges, with its deltas, or the signals alone.
+fn scatter_over<P: VertexProgram>(
+    alloc: Global,
+    program: &P,
+    graph: &Graph,
+    store: &mut EdgeStore,
+    mirrors: &MirrorTable,
+    carries: &[Option<P::Carry>],
+    with_deltas: bool,
+) -> Result<Vec<Sent<P::Acc>>, AllocError>
+    requires readable { IsReadable (P.meaning program.now) graph.now store.old mirrors.now }
+    requires carries { AreCarries (P.meaning program.now) graph.now carries.now }
+    ensures words { let p = P.meaning program.now in OnOk result (store.new ≡ record store.old {
+      words = words_after p graph.now mirrors.now carries.now store.old;
+    }) }
+    ensures sent { let p = P.meaning program.now in IfOk result (λ sent. sent.items ≡
+        listing with_deltas (sent_from p graph.now mirrors.now carries.now store.old)) }
+    ensures own { IfOk result (λ sent.
+        All (IsSentIn (P.meaning program.now) (length graph.now.ids)) sent.items) }
+{
+    if with_deltas {
+        scatter_worker(alloc, program, graph, store, mirrors, carries)
+    } else {
+        scatter_signals(alloc, program, graph, store, mirrors, carries)
+    }
+}
+
 impl<A> Scattering<A> {
     ghost use Rattle.pg_law.specs.Carries.{AreCarries};
     ghost use Rattle.pg_gather.specs.Partials.{IsReadable};
     ghost use Rattle.pg_sync.specs.Phases.{HasScattered};
 
-    /// Scatters over the worker's own edges for the vertices with a carry.
+    /// Scatters over the worker's own edges for the vertices with a carry. Where no gather is kept
+    /// the signals alone are listed, since nobody asks for a delta.
     pub fn scatter<P: VertexProgram<Acc = A>>(
         &mut self,
         alloc: Global,
@@ -56,13 +86,15 @@ impl<A> Scattering<A> {
         graph: &Graph,
         mirrors: &MirrorTable,
         carries: &[Option<P::Carry>],
+        with_deltas: bool,
     )
         requires readable { IsReadable (P.meaning program.now) graph.now self.old.store
             mirrors.now }
         requires carries { AreCarries (P.meaning program.now) graph.now carries.now }
         ensures { HasScattered (P.meaning program.now) graph.now mirrors.now carries.now
-            self.old self.new }
+            with_deltas self.old self.new }
     {
-        self.sent = scatter_worker(alloc, program, graph, &mut self.store, mirrors, carries);
+        let store = &mut self.store;
+        self.sent = scatter_over(alloc, program, graph, store, mirrors, carries, with_deltas);
     }
 }
