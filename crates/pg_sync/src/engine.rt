@@ -56,8 +56,8 @@ fn run_seated<R: Threads + Sync, P: VertexProgram, G: Gate, L: Ledger + Send>(
 {
     let _ = graph.vertices();
     let mut words = state.edges.to_vec(alloc)?;
-    let mut workers = workers_of(alloc, graph, cut, words.as_slice())?;
-    let mut mirrors = replicas_of(alloc, graph, cut, state.values.as_slice())?;
+    let mut workers = workers_of(rt, alloc, graph, cut, words.as_slice())?;
+    let mut mirrors = replicas_of(rt, alloc, graph, cut, state.values.as_slice())?;
     let mut masters = Masters::of(alloc, state.values, state.messages)?;
     let parts = workers.as_mut_slice();
     let tables = mirrors.as_mut_slice();

@@ -16,9 +16,9 @@ use crate::cells::{apply_cells, fill_all, settle_all};
 use crate::collect::{sent_of, sums_of};
 use crate::degree::gathers_of;
 use crate::masters::{Masters, data_of_applied};
-use crate::phases::{gather_phase, scatter_phase};
+use crate::phases::{gather_phase, push_phase, scatter_phase, threads_for};
 use crate::worker::{Scattering, Seat};
-use pg_apply_scatter::{apply_masters, deliver, push_mirrors};
+use pg_apply_scatter::{apply_masters, deliver};
 use pg_base::Gate;
 use pg_cut::Cut;
 use pg_delta::CacheCell;
@@ -258,7 +258,8 @@ pub fn scatter_part<R: Threads + Sync, P: VertexProgram>(
     let _ = graph.vertices();
     masters.write(applied);
     let pairs = data_of_applied(alloc, applied)?;
-    push_mirrors(pairs.as_slice(), mirrors);
+    let threads = threads_for(workers.len(), applied.len());
+    push_phase(rt, pairs.as_slice(), mirrors, threads);
     let with_deltas = are_kept(cells);
     scatter_phase(
         rt,
@@ -269,6 +270,7 @@ pub fn scatter_part<R: Threads + Sync, P: VertexProgram>(
         mirrors,
         masters.carries.as_slice(),
         with_deltas,
+        threads,
     );
     let lists = sent_of(alloc, workers)?;
     let messages = masters.messages.as_mut_slice();

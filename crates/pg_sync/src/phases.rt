@@ -1,15 +1,16 @@
-//! The two phases in which the workers run side by side.
-ghost use Rattle.std.specs.Prelude.{◌≡◌, ◌<◌, ◌≤◌, ℕ, length, slice_index_or, All, IsSome};
+//! The phases in which the workers run side by side.
+ghost use Rattle.std.specs.Prelude.{◌≡◌, ◌≢◌, ◌<◌, ◌≤◌, ℕ, length, slice_index_or, All, AllPairs, IsSome};
+ghost use Rattle.pg_mirrors.specs.Mirrors.{Pushes};
 ghost use Rattle.pg_law.specs.Carries.{AreCarries};
 ghost use Rattle.pg_gather.specs.Partials.{IsReadable};
-ghost use Rattle.pg_apply_scatter.specs.Pushing.{table_at};
+ghost use Rattle.pg_apply_scatter.specs.Pushing.{table_at, ArePushed};
 ghost use Rattle.pg_sync.specs.declared.worker.Scattering.{Scattering};
 ghost use Rattle.pg_sync.specs.Phases.{Seat as SeatOf, HasGathered, HasScattered, AreReadable};
 
 use crate::worker::{Scattering, Seat, gather};
 use pg_base::Gate;
 use pg_graph::Graph;
-use pg_law::VertexProgram;
+use pg_law::{Datum, VertexProgram};
 use pg_mirrors::MirrorTable;
 use std::alloc::Global;
 use std::sync::ledger::Ledger;
@@ -72,6 +73,30 @@ pub fn gather_phase<R: Threads + Sync, P: VertexProgram, G: Gate, L: Ledger + Se
     }
 }
 
+/// Every worker gives its own replicas the data of the listed vertices, which are distinct.
+pub fn push_phase<R: Threads + Sync>(
+    rt: &R,
+    applied: &[(u32, Datum)],
+    mirrors: &mut [MirrorTable],
+    threads: usize,
+)
+    requires apart { AllPairs (λ a b. a.0 ≢ b.0) applied.now }
+    requires threads { 0 < threads }
+    ensures { ArePushed mirrors.old mirrors.new applied.now }
+{
+    thread::for_each_mut(
+        rt,
+        mirrors,
+        threads,
+        &|_, table: &mut MirrorTable|
+            requires { AllPairs (λ a b. a.0 ≢ b.0) applied.now }
+            ensures { Pushes table.entry.now table.exit.now applied.entry.now }
+        {
+            table.push(applied);
+        },
+    );
+}
+
 /// Every worker scatters for the vertices with a carry, in a thread of its own. What it sends is
 /// listed with its deltas, or the signals alone.
 pub fn scatter_phase<R: Threads + Sync, P: VertexProgram>(
@@ -83,7 +108,9 @@ pub fn scatter_phase<R: Threads + Sync, P: VertexProgram>(
     mirrors: &[MirrorTable],
     carries: &[Option<P::Carry>],
     with_deltas: bool,
+    threads: usize,
 )
+    requires threads { 0 < threads }
     requires tables { length mirrors.now ≡ length scatterings.old }
     requires readable { AreReadable (P.meaning program.now) graph.now scatterings.old mirrors.now }
     requires carries { AreCarries (P.meaning program.now) graph.now carries.now }
@@ -92,23 +119,36 @@ pub fn scatter_phase<R: Threads + Sync, P: VertexProgram>(
         HasScattered p graph.now (table_at mirrors.now w) carries.now with_deltas
         (slice_index_or scatterings.old w d) (slice_index_or scatterings.new w d) }
 {
-    if !scatterings.is_empty() {
-        let count = scatterings.len();
-        thread::for_each_mut(
-            rt,
-            scatterings,
-            count,
-            &|w: usize, one: &mut Scattering<P::Acc>|
-                requires { (w < length mirrors.now) ×
-                    (IsReadable (P.meaning program.now) graph.now one.now.store
-                    (table_at mirrors.now w)) ×
-                    (AreCarries (P.meaning program.now) graph.now carries.now) }
-                ensures { HasScattered (P.meaning program.entry.now) graph.entry.now
-                    (table_at mirrors.entry.now w) carries.entry.now with_deltas
-                    one.entry.now one.exit.now }
-            {
-                one.scatter(alloc, program, graph, &mirrors[w], carries, with_deltas);
-            },
-        );
+    thread::for_each_mut(
+        rt,
+        scatterings,
+        threads,
+        &|w: usize, one: &mut Scattering<P::Acc>|
+            requires { (w < length mirrors.now) ×
+                (IsReadable (P.meaning program.now) graph.now one.now.store
+                (table_at mirrors.now w)) ×
+                (AreCarries (P.meaning program.now) graph.now carries.now) }
+            ensures { HasScattered (P.meaning program.entry.now) graph.entry.now
+                (table_at mirrors.entry.now w) carries.entry.now with_deltas
+                one.entry.now one.exit.now }
+        {
+            one.scatter(alloc, program, graph, &mirrors[w], carries, with_deltas);
+        },
+    );
+}
+
+/// How many vertices are worth a thread for each worker: to start one takes about as long as to
+/// push or to scatter for so many.
+const WORTH_THREADS: usize = 256;
+
+/// In how many threads so many workers push and scatter for so many vertices: each worker in its
+/// own, or one after another.
+pub fn threads_for(workers: usize, vertices: usize) -> usize
+    ensures { 0 < result }
+{
+    if vertices < WORTH_THREADS {
+        1
+    } else {
+        workers.max(1)
     }
 }

@@ -1,6 +1,7 @@
-use Rattle.pg_sync.specs.Shared.{HaveReplicas}
+use Rattle.std.specs.Vec.Iter.{into_iter_items}
+use Rattle.pg_sync.proofs.Sharing.{AreTablesTaken}
 use Rattle.pg_sync.proofs.shares.replicas_of.Given as goal
 
--- the workers so far have their replicas
-abbrev pub invariant-loop-w : goal.invariant-loop-w
-invariant-loop-w l = HaveReplicas l.cut l.values l.w l.tables.items
+-- the tables so far are made, and what is left is made for the next workers
+abbrev pub invariant-loop-one : goal.invariant-loop-one
+invariant-loop-one g l = AreTablesTaken l.cut l.values l.tables.items (into_iter_items l.one-iterator)
