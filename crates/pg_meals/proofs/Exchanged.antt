@@ -12,7 +12,7 @@ cond_swap true true w = refl
 cond_swap true false w = refl
 cond_swap false b w = refl
 
-among_more : (f : ℕ) (es : List ℕ) (i : ℕ) → i < length es → is_among f (take (suc i) es) ≡ cond (f == slice_index_or es i 0) true (is_among f (take i es))
+pub among_more : (f : ℕ) (es : List ℕ) (i : ℕ) → i < length es → is_among f (take (suc i) es) ≡ cond (f == slice_index_or es i 0) true (is_among f (take i es))
 among_more f [] i l = absurd (omega arith)
 among_more f (e ∷ es) zero l = refl
 among_more f (e ∷ es) (suc i) l = ap (λ w. cond (f == e) true w) (among_more f es i (omega arith)) ∙ cond_swap (f == e) (f == slice_index_or es i 0) (is_among f (take i es))
@@ -26,7 +26,7 @@ among_get (e ∷ es) (suc i) l = go (slice_index_or es i 0 == e) (among_get es i
     go true w = refl
     go false w = w
 
-once_before : (es : List ℕ) (i : ℕ) → Once es → i < length es → is_among (slice_index_or es i 0) (take i es) ≡ false
+pub once_before : (es : List ℕ) (i : ℕ) → Once es → i < length es → is_among (slice_index_or es i 0) (take i es) ≡ false
 once_before [] i o l = absurd (omega arith)
 once_before (e ∷ es) zero o l = refl
 once_before (e ∷ es) (suc i) o l =

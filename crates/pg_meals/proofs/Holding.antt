@@ -43,7 +43,7 @@ pub each_by_place : (P : ℕ → Type 0) (xs : List ℕ) → ((i : ℕ) → i < 
 each_by_place P [] k = tt
 each_by_place P (x ∷ xs) k = (k 0 (omega arith), each_by_place P xs (λ i l. k (suc i) (omega arith)))
 
-at_is : (g : Multigraph) (s : Side) (e v : ℕ) → end_at g s e ≡ v → is_at v (edge_at g e) ≡ true
+pub at_is : (g : Multigraph) (s : Side) (e v : ℕ) → end_at g s e ≡ v → is_at v (edge_at g e) ≡ true
 at_is g Source e v q = ap (λ b. b || (end_at g Target e == v)) ((Decides-eqb (end_at g Source e) v).1 q)
 at_is g Target e v q = ap (λ b. (end_at g Source e == v) || b) ((Decides-eqb (end_at g Target e) v).1 q) ∙ or_true (end_at g Source e == v)
   where

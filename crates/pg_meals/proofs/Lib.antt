@@ -48,3 +48,11 @@ pub mod Firsts
 pub mod Left
 pub mod Seen
 pub mod Closed
+pub mod Planned
+pub mod Along
+pub mod Plans
+pub mod Readied
+pub mod Due
+pub mod Allowed
+pub mod Looping
+pub mod Drafted

@@ -4,7 +4,7 @@ use Rattle.std.proofs.lemmas.Bool.Decides.{nat_tests}
 use Rattle.pg_graph.specs.declared.edge.Side.{Side}
 use Rattle.pg_graph.specs.declared.edge.Side.TheVariants.{Source, Target}
 use Rattle.pg_graph.specs.Multigraph.{opposite, takes}
-use Rattle.pg_meals.specs.Shape.{Shape}
+use Rattle.pg_meals.specs.Shape.{Shape, at_end}
 use Rattle.pg_meals.specs.Words.{waiter}
 use Rattle.pg_meals.proofs.Shapes.{Graphlike}
 use Rattle.pg_meals.specs.Hygiene.{Hygiene}
@@ -15,7 +15,7 @@ use Rattle.pg_meals.specs.Serial.{Serial, or_zero, near_in, gather_over, fresh, 
 use Rattle.pg_meals.specs.Core.{Core, Content, empty_content, Prepared}
 use Rattle.pg_meals.specs.Standing.{stands, signalled}
 use Rattle.pg_meals.specs.Preparing.{kept_cell, content_after, content_sent, content_kept, noted_datum, near_noted, applied_noted, prepared_by, prepared_core, MayPrepare}
-use Rattle.std.specs.Prelude.{is_some}
+use Rattle.std.specs.Prelude.{is_some, ltb}
 use Rattle.pg_meals.specs.StandsFor.{IsReady, StandsFor, Invariant}
 use Rattle.pg_meals.proofs.At.{same_or_not}
 use Rattle.pg_meals.proofs.Entries.{at_end_is}
@@ -55,7 +55,7 @@ module _ {A C : Type 0} (p : Program A C) (g : Shape) where
         go Source Target x y = absurd (plain.loopless e i (x ∙ sym y))
         go Target Source x y = absurd (plain.loopless e i (y ∙ sym x))
 
-    datum_noted : (t : Side) (e : ℕ) → e < g.edges → g.end t e ≡ v → (takes p.gather_edges t ≡ true) ⊎ (takes p.scatter_edges t ≡ true) → noted_datum p g c a e ≡ (stands p g c).value (g.end (opposite t) e)
+    pub datum_noted : (t : Side) (e : ℕ) → e < g.edges → g.end t e ≡ v → (takes p.gather_edges t ≡ true) ⊎ (takes p.scatter_edges t ≡ true) → noted_datum p g c a e ≡ (stands p g c).value (g.end (opposite t) e)
     datum_noted t e i at used =
         let k = may.noted t e i at used in
         let w : waiter g c.words e ≡ g.end (opposite t) e = ap (λ f. g.end (opposite f) e) (sym (side_same t e i at)) in
@@ -70,7 +70,7 @@ module _ {A C : Type 0} (p : Program A C) (g : Shape) where
         let y : (c.place v).datum ≡ (c.place (g.end t e)).datum = ap (λ u. (c.place u).datum) (sym at) in
         λ j. record { side = t; edge = g.edge_info e; word = (c.content e).word; centre = y j; other = x j }
 
-    gathered_is : gather_over p g (near_noted p g c a (c.place v).datum) v g.edges ≡ fresh p g (stands p g c) v
+    pub gathered_is : gather_over p g (near_noted p g c a (c.place v).datum) v g.edges ≡ fresh p g (stands p g c) v
     gathered_is = gather_like p g (near_noted p g c a (c.place v).datum) (near_in g (stands p g c)) v g.edges plain (λ t e i at k. ap p.gather (near_gathered t e i at k))
 
     applied_is : applied_noted p g c a v m ≡ applied p g (stands p g c) v m
@@ -90,7 +90,10 @@ module _ {A C : Type 0} (p : Program A C) (g : Shape) where
       again = ap (λ (x : Applied C). x.again) applied_is;
       cell = ap (kept_cell p g g.caches) gathered_is;
       content = λ t e i at.
-          at_end_is g plain t v e (λ f. content_after p g f (c.content e) (p.scatter (near_noted p g c a (applied_noted p g c a v m).datum f e) (applied_noted p g c a v m).carry)) empty_content i at
+          let inside : ltb e g.edges ≡ true = grind (arith, nat_tests) in
+          let f : Side → Content A = λ f. content_after p g f (c.content e) (p.scatter (near_noted p g c a (applied_noted p g c a v m).datum f e) (applied_noted p g c a v m).carry) in
+          ap (λ d. cond d (at_end g v e f empty_content) empty_content) inside
+          ∙ at_end_is g plain t v e f empty_content i at
           ∙ (ap (λ (x : Applied C). content_after p g t (c.content e) (p.scatter (near_noted p g c a x.datum t e) x.carry)) applied_is
           ∙ content_like t (c.content e) _ _ (scattered_is (applied p g (stands p g c) v m) t e i at));
     }

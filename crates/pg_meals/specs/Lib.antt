@@ -29,3 +29,6 @@ pub mod Steps
 pub mod Tables
 pub mod Least
 pub mod Closing
+pub mod Plans
+pub mod Readied
+pub mod Prepares

@@ -1,5 +1,5 @@
 -- Preparing: what an entry will make of a vertex and its forks, by what the actor holds and noted.
-use Rattle.std.specs.Prelude.{ℕ, ◌≡◌, ◌<◌, ◌⊎◌, Bool, true, false, cond, Some, None, is_some}
+use Rattle.std.specs.Prelude.{ℕ, ◌≡◌, ◌<◌, ◌⊎◌, ltb, Bool, true, false, cond, Some, None, is_some}
 use Rattle.pg_graph.specs.declared.edge.Side.{Side}
 use Rattle.pg_graph.specs.Multigraph.{opposite, takes}
 use Rattle.pg_law.specs.declared.values.Datum.{Datum}
@@ -65,15 +65,15 @@ module _ {A C : Type 0} (p : Program A C) (g : Shape) where
   abbrev pub kept_cell : Bool → A → CacheCell A
   kept_cell caches acc = record { acc = cond caches (Some acc) None; pending = Nothing }
 
-  -- what is prepared for v, which became x
+  -- what is prepared for v, which became x: nothing rides on what is no edge of v
   abbrev pub prepared_with : Core A → ℕ → ℕ → Applied C → Prepared A
   prepared_with c a v x = record {
     datum = x.datum;
     again = x.again;
     cell = kept_cell g.caches (gather_noted c a v);
-    content = λ e. at_end g v e
+    content = λ e. cond (ltb e g.edges) (at_end g v e
         (λ s. content_after s (c.content e) (p.scatter (near_noted c a x.datum s e) x.carry))
-        empty_content;
+        empty_content) empty_content;
   }
 
   abbrev pub prepared_by : Core A → ℕ → ℕ → ℕ → Prepared A

@@ -48,4 +48,14 @@ impl<A> Carried<A> {
             Side::Target => self.target.message.is_some(),
         }
     }
+
+    /// What waits for this end.
+    pub fn ride(&self, me: Side) -> &Ride<A>
+        ensures { result.now ≡ at_side me self.now }
+    {
+        match me {
+            Side::Source => &self.source,
+            Side::Target => &self.target,
+        }
+    }
 }
