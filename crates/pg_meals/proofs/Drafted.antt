@@ -112,8 +112,8 @@ module _ {A C : Type 0} (p : Program A C) (law : IsLawful p) (g : Multigraph) (s
     shown =
         (λ j. core_from (seat_at (any_datum p) (readied.seats j)) (fork_at (any_word p) b'.forks.items) (replicas_at (readied.replicas j).items) (actor_at (readied.actors j)) (readied.turn j) (readied.journal j).items)
         ∙ ready_shows (any_word p) (any_datum p) b.seats.items b.forks.items b'.forks.items b.replicas.items b.actors.items b.turn b.journal.items a v (edges_at g v)
-            (actor_at b.actors.items a) draft.ready (seat_at (two 0 0) b.seats.items v) draft.cell (planned_over p g b.forks.items v x)
-            a_in (omega (arith, v_in, kept.laid.seats)) refl (seat_same p law g s b kept v v_in) readied.forks among may.busy alone
+        (actor_at b.actors.items a) draft.ready (seat_at (two 0 0) b.seats.items v) draft.cell (planned_over p g b.forks.items v x)
+        a_in (omega (arith, v_in, kept.laid.seats)) refl (seat_same p law g s b kept v v_in) readied.forks among may.busy alone
         ∙ (λ j. record c { notes = set_at c.notes a (record (c.notes a) { prepared = Some (record { datum = is.datum j; again = is.again j; cell = is.cell j; content = λ e. content_is e j }) }) })
 
     pub draft_prepares : PreparesOn p g b a b'

@@ -73,12 +73,12 @@ module _ {A C : Type 0} (p : Program A C) (law : IsLawful p) (g : Multigraph) (s
   pub message_is : (v : ℕ) (own : Option ℕ) → own ≡ (c.place v).message → message_along p.combine g b.forks.items v own (edges_at g v) ≡ st.message v
   message_is v own is =
       joined_along (join_monoid p law) (λ e. is_at v (edge_at g e)) (λ e. (ride_on g b.forks.items v e).message) (λ e. (c.content e).message (side_at g v e)) own (length g.edges)
-          (subst (IsOptional p.IsMessage) (sym is) (kept.stands.kept.true_of.own_message v))
-          (λ e i. (kept.stands.kept.true_of.content_fits e).message (side_at g v e))
-          (λ e i. ap (λ (f : Fork A). (at_side (side_at g v e) f.content).message) (fork_same p law g s b kept e i))
+      (subst (IsOptional p.IsMessage) (sym is) (kept.stands.kept.true_of.own_message v))
+      (λ e i. (kept.stands.kept.true_of.content_fits e).message (side_at g v e))
+      (λ e i. ap (λ (f : Fork A). (at_side (side_at g v e) f.content).message) (fork_same p law g s b kept e i))
       ∙ (λ j. join p.combine (is j) (total_like (join p.combine) None
-          (λ e. cond (is_at v (edge_at g e)) ((c.content e).message (side_at g v e)) None) (message_at shape c.content v) (length g.edges)
-          (λ e i. sym (at_end_test g (cut_of b) b.caches v e (λ t. (c.content e).message t) None)) j))
+      (λ e. cond (is_at v (edge_at g e)) ((c.content e).message (side_at g v e)) None) (message_at shape c.content v) (length g.edges)
+      (λ e i. sym (at_end_test g (cut_of b) b.caches v e (λ t. (c.content e).message t) None)) j))
 
   -- the gather that is kept, with all that waits
   pub kept_is : (v : ℕ) (cell : CacheCell A) → cell ≡ (c.place v).cell
@@ -88,13 +88,13 @@ module _ {A C : Type 0} (p : Program A C) (law : IsLawful p) (g : Multigraph) (s
       let rest : Delta A = total (joined p.sum) Nothing (λ e. cond (is_at v (edge_at g e)) ((c.content e).delta (side_at g v e)) Nothing) (length g.edges) in
       let rest_own : IsDelta p.IsAcc rest = waits_own p law (λ e. is_at v (edge_at g e)) (λ e. (c.content e).delta (side_at g v e)) (length g.edges) (λ e i. (kept.stands.kept.true_of.content_fits e).delta (side_at g v e)) in
       added_all p law (λ e. is_at v (edge_at g e)) (λ e. (ride_on g b.forks.items v e).delta) (λ e. (c.content e).delta (side_at g v e)) (added p.sum cell.acc cell.pending) (length g.edges)
-          (added_own p law cell.acc cell.pending own.acc own.pending)
-          (λ e i. (kept.stands.kept.true_of.content_fits e).delta (side_at g v e))
-          (λ e i. ap (λ (f : Fork A). (at_side (side_at g v e) f.content).delta) (fork_same p law g s b kept e i))
+      (added_own p law cell.acc cell.pending own.acc own.pending)
+      (λ e i. (kept.stands.kept.true_of.content_fits e).delta (side_at g v e))
+      (λ e i. ap (λ (f : Fork A). (at_side (side_at g v e) f.content).delta) (fork_same p law g s b kept e i))
       ∙ added_joined p law cell.acc cell.pending rest own.acc own.pending rest_own
       ∙ (λ j. added p.sum (is j).acc (joined p.sum (is j).pending (total_like (joined p.sum) Nothing
-          (λ e. cond (is_at v (edge_at g e)) ((c.content e).delta (side_at g v e)) Nothing) (delta_at shape c.content v) (length g.edges)
-          (λ e i. sym (at_end_test g (cut_of b) b.caches v e (λ t. (c.content e).delta t) Nothing)) j)))
+      (λ e. cond (is_at v (edge_at g e)) ((c.content e).delta (side_at g v e)) Nothing) (delta_at shape c.content v) (length g.edges)
+      (λ e i. sym (at_end_test g (cut_of b) b.caches v e (λ t. (c.content e).delta t) Nothing)) j)))
 
   -- it can be used where the vertex has a gather
   pub kept_there : (v : ℕ) → is_some (added p.sum (c.place v).cell.acc (waiting p shape c v)) ≡ has_gather p shape c v

@@ -151,9 +151,7 @@ pub fn plan<P: VertexProgram>(
     let around = graph.edges_of(vertex);
     let mut plans = Vec::with_capacity(alloc, around.len())?;
     for e in around {
-        plans.push(plan_over(
-            alloc, program, graph, forks, vertex, applied, *e,
-        )?)?;
+        plans.push(plan_over(alloc, program, graph, forks, vertex, applied, *e)?)?;
     }
     Ok(plans)
 }

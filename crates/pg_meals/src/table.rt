@@ -1,9 +1,11 @@
 //! The table at which actors share the forks of a graph.
-ghost use Rattle.std.specs.Prelude.{◌≡◌, ◌<◌, length, is_some, MatchOption, IsNone, IsSome, IfSome, IfOk};
+ghost use Rattle.std.specs.Prelude.{◌≡◌, ◌+◌, ◌<◌, length, is_some, MatchOption, IsNone, IsSome, IfSome, IfOk};
+ghost use Rattle.std.specs.Prelude.{MatchBool, IsFalse, OnErr, if◌then◌else◌};
 ghost use Rattle.pg_law.specs.Configuration.{IsFit};
 ghost use Rattle.pg_law.specs.Journal.{IsLegal};
 ghost use Rattle.pg_cut.specs.Cut.{IsCutOf, Division};
 ghost use Rattle.pg_meals.specs.Steps.{IsWithin, MakesOn, RefusesOn};
+ghost use Rattle.pg_meals.specs.Prepares.{MayNotPrepare, PreparesOn, cost_by};
 ghost use Rattle.pg_meals.specs.Opened.{cells_in, IsOpened};
 ghost use Rattle.pg_meals.specs.Tables.{AreCaches, IsSameTable, IsQuietTable, IsFirstOf};
 ghost use Rattle.pg_meals.specs.Tables.{state_of};
@@ -12,13 +14,15 @@ ghost use Rattle.pg_meals.specs.Closing.{AllFree, OneBusy, AreLeft};
 use crate::act::{Act, Outcome};
 use crate::board::Board;
 use crate::closing::{cells_left, state_left};
+use crate::preparing::prepare_on;
 use crate::room::Room;
 use pg_cut::Cut;
 use pg_delta::CacheCell;
 use pg_graph::Graph;
-use pg_law::{JournalEntry, State, VertexProgram, laws_of};
+use pg_law::{JournalEntry, State, Steps, VertexProgram, laws_of};
 use std::alloc::{AllocError, Global};
 use std::marker::Model;
+use std::sync::ledger::Ledger;
 
 /// A board over a graph for one program, whose core keeps its promise.
 ///
@@ -107,6 +111,41 @@ impl<'g, P: VertexProgram> MealTable<'g, P> {
     {
         laws_of(self.program);
         self.board.step(self.graph, actor, act)
+    }
+
+    /// The actor prepares the entry of its vertex: it gathers, applies and scatters over what it noted,
+    /// inside its own record.
+    ///
+    /// It is false where the actor has no vertex in hand or has committed, where it hasn't pinned a fork
+    /// of its vertex or hasn't noted what the vertex looks at, and where no message is there. A kept
+    /// gather is used where it is known with all that waits for it. `Err` is want of memory; what was
+    /// gathered until then is counted.
+    pub fn prepare<L: Ledger>(
+        &mut self,
+        alloc: Global,
+        actor: u32,
+        steps: &mut Steps<L>,
+    ) -> Result<bool, AllocError>
+        requires { actor < length self.old.board.actors.items }
+        ensures made { let p = P.meaning self.old.program in IfOk result (λ made. MatchBool made
+            (PreparesOn p self.old.graph self.old.board actor self.new.board)
+            (self.new ≡ self.old)) }
+        ensures refused { let p = P.meaning self.old.program in IfOk result (λ made. IsFalse made
+            → MayNotPrepare p self.old.graph self.old.board actor) }
+        ensures counted { let p = P.meaning self.old.program in IfOk result (λ made. steps.new
+            ≡ steps.old + (if made then cost_by p self.old.graph self.old.board actor else 0)) }
+        ensures err { OnErr result (self.new ≡ self.old) }
+        ensures same { IsSameTable self.old self.new }
+    {
+        laws_of(self.program);
+        prepare_on(
+            alloc,
+            self.program,
+            self.graph,
+            &mut self.board,
+            actor,
+            steps,
+        )
     }
 
     /// The signalled vertex of least rank.

@@ -40,24 +40,24 @@ loop-e-preserved g c =
     = c.takes.ensures ∙ (λ j. takes (c.gather_edges-dir.ensures j) (side j)) in
     let used = (λ (e : ℕ). takes p.gather_edges (side_at c.args.graph.now c.args.vertex e)) in
     elim c.if-takes.branch [
-      then-takes+in_ok-part+in_ok-acc-2 w ↦
-        let near = subst (IsNear p) (sym w.near_over-near.ensures) (c.requires.near _ at.0 at.1 (sym test ∙ w.if-takes.true)) in
-        let part_is = w.in_ok-part.ensures.gathered ∙ ap p.gather w.near_over-near.ensures in
-        let part_own = subst p.IsAcc (sym w.in_ok-part.ensures.gathered) (c.laws_of.ensures.closed.gather _ near) in
-        let more : length (filter used (take (i + 1) around)) ≡ length (filter used (take i around)) + 1 = count_passing_more used around i true c.loop-e-test.true (sym test ∙ w.if-takes.true) in
-        record {
-          gathered = w.acc-is ∙ (w.in_ok-acc-2.ensures ∙ ((λ j. p.sum (inv.gathered j) (part_is j))
-              ∙ sym (fold_passing_more _ _ _ around i true c.loop-e-test.true (sym test ∙ w.if-takes.true))));
-          own = subst p.IsAcc (sym (w.acc-is ∙ w.in_ok-acc-2.ensures)) (c.laws_of.ensures.closed.sum _ _ inv.own part_own);
-          counted = rw (w.steps-is) (omega (arith, inv.counted, more, w.in_ok-part.ensures.counted));
-        }
+      | then-takes+in_ok-part+in_ok-acc-2 w ↦
+          let near = subst (IsNear p) (sym w.near_over-near.ensures) (c.requires.near _ at.0 at.1 (sym test ∙ w.if-takes.true)) in
+          let part_is = w.in_ok-part.ensures.gathered ∙ ap p.gather w.near_over-near.ensures in
+          let part_own = subst p.IsAcc (sym w.in_ok-part.ensures.gathered) (c.laws_of.ensures.closed.gather _ near) in
+          let more : length (filter used (take (i + 1) around)) ≡ length (filter used (take i around)) + 1 = count_passing_more used around i true c.loop-e-test.true (sym test ∙ w.if-takes.true) in
+          record {
+            gathered = w.acc-is ∙ (w.in_ok-acc-2.ensures ∙ ((λ j. p.sum (inv.gathered j) (part_is j))
+                ∙ sym (fold_passing_more _ _ _ around i true c.loop-e-test.true (sym test ∙ w.if-takes.true))));
+            own = subst p.IsAcc (sym (w.acc-is ∙ w.in_ok-acc-2.ensures)) (c.laws_of.ensures.closed.sum _ _ inv.own part_own);
+            counted = rw (w.steps-is) (omega (arith, inv.counted, more, w.in_ok-part.ensures.counted));
+          }
       | else-takes w ↦
-        let more : length (filter used (take (i + 1) around)) ≡ length (filter used (take i around)) + 0 = count_passing_more used around i false c.loop-e-test.true (sym test ∙ w.if-takes.false) in
-        record {
-          gathered = w.acc-is ∙ (inv.gathered ∙ sym (fold_passing_more _ _ _ around i false c.loop-e-test.true (sym test ∙ w.if-takes.false)));
-          own = subst p.IsAcc (sym w.acc-is) inv.own;
-          counted = rw (w.steps-is) (omega (arith, inv.counted, more));
-        }
+          let more : length (filter used (take (i + 1) around)) ≡ length (filter used (take i around)) + 0 = count_passing_more used around i false c.loop-e-test.true (sym test ∙ w.if-takes.false) in
+          record {
+            gathered = w.acc-is ∙ (inv.gathered ∙ sym (fold_passing_more _ _ _ around i false c.loop-e-test.true (sym test ∙ w.if-takes.false)));
+            own = subst p.IsAcc (sym w.acc-is) inv.own;
+            counted = rw (w.steps-is) (omega (arith, inv.counted, more));
+          }
     ]
 
 pub returns-clause-value : goal.returns-clause-value

@@ -32,7 +32,7 @@ plan-requires-clause-carry g c κs within =
     let seat = c.index.ensures ∙ read_any b.seats.items v c.index.result.now (no_seat (any_datum p)) v_in in
     let message = state_message_own p c.laws_of.ensures c.args.graph.now c.requires.kept.0 b k v c.args.due.message c.requires.due.message in
     let own = c.laws_of.ensures.closed.apply c.info-info.result c.index.result.now.datum c.in_ok-acc.acc c.args.due.message c.info-info.ensures.known
-        (subst (λ (x : Seat _). p.IsDatum x.datum) (sym seat) (k.stands.kept.true_of.datum_fits v)) c.in_ok-acc.ensures.own message in
+    (subst (λ (x : Seat _). p.IsDatum x.datum) (sym seat) (k.stands.kept.true_of.datum_fits v)) c.in_ok-acc.ensures.own message in
     (subst (IsApplied p) (sym c.apply-applied.ensures) own).carry
 
 pub plan-requires-clause-near : goal.plan-requires-clause-near
@@ -45,7 +45,7 @@ plan-requires-clause-near g c κs within = λ e i at t.
     let seat = c.index.ensures ∙ read_any b.seats.items v c.index.result.now (no_seat (any_datum p)) v_in in
     let message = state_message_own p c.laws_of.ensures c.args.graph.now c.requires.kept.0 b k v c.args.due.message c.requires.due.message in
     let own = c.laws_of.ensures.closed.apply c.info-info.result c.index.result.now.datum c.in_ok-acc.acc c.args.due.message c.info-info.ensures.known
-        (subst (λ (x : Seat _). p.IsDatum x.datum) (sym seat) (k.stands.kept.true_of.datum_fits v)) c.in_ok-acc.ensures.own message in
+    (subst (λ (x : Seat _). p.IsDatum x.datum) (sym seat) (k.stands.kept.true_of.datum_fits v)) c.in_ok-acc.ensures.own message in
     let datum = (subst (IsApplied p) (sym c.apply-applied.ensures) own).datum in
     subst (λ f. IsNear p (near_over c.args.graph.now f c.apply-applied.result.datum v e)) (sym c.as_slice-forks.ensures.value)
     (near_own p c.laws_of.ensures c.args.graph.now c.requires.kept.0 b k c.args.actor v c.args.due.message c.requires.due c.apply-applied.result.datum datum e i at (inr t))
