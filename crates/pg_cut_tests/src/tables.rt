@@ -8,11 +8,12 @@ use pg_base::Limits;
 use pg_cut::Cut;
 use pg_delta::CacheCell;
 use pg_graph::{Graph, GraphBuilder};
-use pg_law::{Datum, State};
+use pg_law::{Datum, JournalEntry, State, Steps};
 use pg_meals::act::{Act, Outcome};
 use pg_meals::table::{Closed, MealTable};
 use pg_paths::Components;
 use std::alloc::Global;
+use std::marker::Brand;
 use std::process::Abort;
 use std::test::Fail;
 
@@ -71,6 +72,40 @@ fn acts(
     assert_eq!(rt; table.step(actor, act), told);
 }
 
+/// The actor prepares, or may not.
+fn prepares(
+    rt: &impl Abort,
+    alloc: Global,
+    table: &mut MealTable<Components>,
+    actor: u32,
+    made: bool,
+) -> Result<(), Fail>
+    requires { actor < length table.old.board.actors.items }
+    ensures { IsSameTable table.old table.new }
+{
+    let mut steps = Steps::<Brand>::new();
+    let prepared = table.prepare(alloc, actor, &mut steps)?;
+    assert_eq!(rt; prepared, made);
+    Ok(())
+}
+
+/// The actor, which has prepared, makes its entry, shows it, and leaves.
+fn enters(rt: &impl Abort, table: &mut MealTable<Components>, actor: u32, number: u64)
+    requires actor { actor < length table.old.board.actors.items }
+    requires edge { 0 < length table.old.graph.edges }
+    ensures { IsSameTable table.old table.new }
+{
+    acts(rt, table, actor, Act::Turn, MOVED);
+    let entered = Some(Outcome::Entered { number });
+    acts(rt, table, actor, Act::Commit, entered);
+    acts(rt, table, actor, Act::Back { edge: 0 }, None);
+    acts(rt, table, actor, Act::Give, MOVED);
+    acts(rt, table, actor, Act::Back { edge: 0 }, None);
+    acts(rt, table, actor, Act::WriteMirror { worker: 0 }, MOVED);
+    acts(rt, table, actor, Act::Back { edge: 0 }, MOVED);
+    acts(rt, table, actor, Act::Drop, MOVED);
+}
+
 const MOVED: Option<Outcome> = Some(Outcome::Moved);
 
 #[test]
@@ -85,6 +120,43 @@ fn a_pinned_fork_is_asked_for(rt: HostRuntime) -> Result<(), Fail> {
     acts(&rt, &mut table, 0, Act::Ask { edge: 0 }, MOVED);
     let saw = Some(Outcome::Saw { bits: 15 });
     acts(&rt, &mut table, 1, Act::Look { edge: 0 }, saw);
+    Ok(())
+}
+
+// Vertex 1 executes first, vertex 0 is left the fork for which it asked, and executes after it.
+#[test]
+fn two_attempts_make_two_entries(rt: HostRuntime) -> Result<(), Fail> {
+    let graph = line(&rt, rt.alloc())?;
+    let program = Components::new();
+    let mut table = open(&rt, rt.alloc(), &program, &graph)?;
+    let read = Some(Outcome::Read {
+        datum: Datum::one(1),
+    });
+    acts(&rt, &mut table, 0, Act::Claim { vertex: 0 }, MOVED);
+    acts(&rt, &mut table, 1, Act::Claim { vertex: 1 }, MOVED);
+    acts(&rt, &mut table, 1, Act::Pin { edge: 0 }, MOVED);
+    acts(&rt, &mut table, 0, Act::Ask { edge: 0 }, MOVED);
+    prepares(&rt, rt.alloc(), &mut table, 1, false)?;
+    acts(&rt, &mut table, 1, Act::ReadMirror { edge: 0 }, read);
+    prepares(&rt, rt.alloc(), &mut table, 0, false)?;
+    prepares(&rt, rt.alloc(), &mut table, 1, true)?;
+    enters(&rt, &mut table, 1, 0);
+    acts(&rt, &mut table, 0, Act::Pin { edge: 0 }, MOVED);
+    acts(&rt, &mut table, 0, Act::ReadMirror { edge: 0 }, read);
+    prepares(&rt, rt.alloc(), &mut table, 0, true)?;
+    enters(&rt, &mut table, 0, 1);
+    assert_eq!(rt; table.least_signalled(), None);
+    let closed = table.close();
+    let Some(closed) = closed else {
+        panic!(&rt; "no vertex is in hand");
+    };
+    let data = [Datum::one(1), Datum::one(1)];
+    assert_eq!(rt; closed.state.values.as_slice(), data.as_slice());
+    let order = [1, 0].map(|vertex| JournalEntry {
+        vertex,
+        datum: Datum::one(1),
+    });
+    assert_eq!(rt; closed.journal.as_slice(), order.as_slice());
     Ok(())
 }
 
