@@ -89,7 +89,17 @@ fn prepares(
     Ok(())
 }
 
-/// The actor, which has prepared, makes its entry, shows it, and leaves.
+/// The actor sees this word of the edge's fork.
+fn sees(rt: &impl Abort, table: &mut MealTable<Components>, actor: u32, bits: u64)
+    requires actor { actor < length table.old.board.actors.items }
+    requires edge { 0 < length table.old.graph.edges }
+    ensures { IsSameTable table.old table.new }
+{
+    let saw = Some(Outcome::Saw { bits });
+    acts(rt, table, actor, Act::Look { edge: 0 }, saw);
+}
+
+/// The actor, which has prepared, makes its entry and shows it. Before that its fork can't go back.
 fn enters(rt: &impl Abort, table: &mut MealTable<Components>, actor: u32, number: u64)
     requires actor { actor < length table.old.board.actors.items }
     requires edge { 0 < length table.old.graph.edges }
@@ -103,7 +113,61 @@ fn enters(rt: &impl Abort, table: &mut MealTable<Components>, actor: u32, number
     acts(rt, table, actor, Act::Back { edge: 0 }, None);
     acts(rt, table, actor, Act::WriteMirror { worker: 0 }, MOVED);
     acts(rt, table, actor, Act::Back { edge: 0 }, MOVED);
-    acts(rt, table, actor, Act::Drop, MOVED);
+}
+
+/// Vertex 1 executes first, while vertex 0 asks for its fork.
+fn first_entry(
+    rt: &impl Abort,
+    alloc: Global,
+    table: &mut MealTable<Components>,
+) -> Result<(), Fail>
+    requires actors { length table.old.board.actors.items ≡ 2 }
+    requires vertices { length table.old.graph.ids ≡ 2 }
+    requires edges { length table.old.graph.edges ≡ 1 }
+    ensures { IsSameTable table.old table.new }
+{
+    acts(rt, table, 0, Act::Claim { vertex: 0 }, MOVED);
+    acts(rt, table, 1, Act::Claim { vertex: 1 }, MOVED);
+    sees(rt, table, 0, 3);
+    acts(rt, table, 1, Act::Pin { edge: 0 }, MOVED);
+    sees(rt, table, 0, 11);
+    acts(rt, table, 0, Act::Pin { edge: 0 }, None);
+    acts(rt, table, 0, Act::Ask { edge: 0 }, MOVED);
+    sees(rt, table, 0, 15);
+    prepares(rt, alloc, table, 1, false)?;
+    acts(rt, table, 1, Act::ReadMirror { edge: 0 }, read());
+    prepares(rt, alloc, table, 0, false)?;
+    prepares(rt, alloc, table, 1, true)?;
+    enters(rt, table, 1, 0);
+    sees(rt, table, 0, 0);
+    acts(rt, table, 1, Act::Drop, MOVED);
+    Ok(())
+}
+
+/// Vertex 0 has got the fork, and executes after it.
+fn second_entry(
+    rt: &impl Abort,
+    alloc: Global,
+    table: &mut MealTable<Components>,
+) -> Result<(), Fail>
+    requires actors { length table.old.board.actors.items ≡ 2 }
+    requires edges { length table.old.graph.edges ≡ 1 }
+    ensures { IsSameTable table.old table.new }
+{
+    acts(rt, table, 0, Act::Pin { edge: 0 }, MOVED);
+    sees(rt, table, 0, 8);
+    acts(rt, table, 0, Act::ReadMirror { edge: 0 }, read());
+    prepares(rt, alloc, table, 0, true)?;
+    enters(rt, table, 0, 1);
+    sees(rt, table, 0, 2);
+    acts(rt, table, 0, Act::Drop, MOVED);
+    Ok(())
+}
+
+/// The datum 1 was read.
+fn read() -> Option<Outcome> {
+    let datum = Datum::one(1);
+    Some(Outcome::Read { datum })
 }
 
 const MOVED: Option<Outcome> = Some(Outcome::Moved);
@@ -123,28 +187,13 @@ fn a_pinned_fork_is_asked_for(rt: HostRuntime) -> Result<(), Fail> {
     Ok(())
 }
 
-// Vertex 1 executes first, vertex 0 is left the fork for which it asked, and executes after it.
 #[test]
 fn two_attempts_make_two_entries(rt: HostRuntime) -> Result<(), Fail> {
     let graph = line(&rt, rt.alloc())?;
     let program = Components::new();
     let mut table = open(&rt, rt.alloc(), &program, &graph)?;
-    let read = Some(Outcome::Read {
-        datum: Datum::one(1),
-    });
-    acts(&rt, &mut table, 0, Act::Claim { vertex: 0 }, MOVED);
-    acts(&rt, &mut table, 1, Act::Claim { vertex: 1 }, MOVED);
-    acts(&rt, &mut table, 1, Act::Pin { edge: 0 }, MOVED);
-    acts(&rt, &mut table, 0, Act::Ask { edge: 0 }, MOVED);
-    prepares(&rt, rt.alloc(), &mut table, 1, false)?;
-    acts(&rt, &mut table, 1, Act::ReadMirror { edge: 0 }, read);
-    prepares(&rt, rt.alloc(), &mut table, 0, false)?;
-    prepares(&rt, rt.alloc(), &mut table, 1, true)?;
-    enters(&rt, &mut table, 1, 0);
-    acts(&rt, &mut table, 0, Act::Pin { edge: 0 }, MOVED);
-    acts(&rt, &mut table, 0, Act::ReadMirror { edge: 0 }, read);
-    prepares(&rt, rt.alloc(), &mut table, 0, true)?;
-    enters(&rt, &mut table, 0, 1);
+    first_entry(&rt, rt.alloc(), &mut table)?;
+    second_entry(&rt, rt.alloc(), &mut table)?;
     assert_eq!(rt; table.least_signalled(), None);
     let closed = table.close();
     let Some(closed) = closed else {
@@ -152,11 +201,31 @@ fn two_attempts_make_two_entries(rt: HostRuntime) -> Result<(), Fail> {
     };
     let data = [Datum::one(1), Datum::one(1)];
     assert_eq!(rt; closed.state.values.as_slice(), data.as_slice());
+    assert_eq!(rt; closed.state.messages.as_slice(), [None, None].as_slice());
     let order = [1, 0].map(|vertex| JournalEntry {
         vertex,
         datum: Datum::one(1),
     });
     assert_eq!(rt; closed.journal.as_slice(), order.as_slice());
+    Ok(())
+}
+
+// The other actor looks at the fork: the attempt itself would take a clean fork for evidence.
+#[test]
+fn a_fork_that_was_taken_for_nothing_stays_dirty(rt: HostRuntime) -> Result<(), Fail> {
+    let alloc = rt.alloc();
+    let graph = line(&rt, alloc)?;
+    let program = Components::new();
+    let mut table = open(&rt, alloc, &program, &graph)?;
+    first_entry(&rt, alloc, &mut table)?;
+    second_entry(&rt, alloc, &mut table)?;
+    acts(&rt, &mut table, 0, Act::Claim { vertex: 1 }, MOVED);
+    acts(&rt, &mut table, 1, Act::Claim { vertex: 0 }, MOVED);
+    acts(&rt, &mut table, 0, Act::Pin { edge: 0 }, MOVED);
+    sees(&rt, &mut table, 1, 9);
+    prepares(&rt, alloc, &mut table, 0, false)?;
+    acts(&rt, &mut table, 0, Act::Back { edge: 0 }, MOVED);
+    sees(&rt, &mut table, 1, 2);
     Ok(())
 }
 
