@@ -14,6 +14,4 @@ mod reports;
 #[cfg(test)]
 mod rounds;
 #[cfg(test)]
-mod samples;
-#[cfg(test)]
 mod serial;
