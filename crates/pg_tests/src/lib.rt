@@ -14,4 +14,6 @@ mod reports;
 #[cfg(test)]
 mod rounds;
 #[cfg(test)]
+mod samples;
+#[cfg(test)]
 mod serial;

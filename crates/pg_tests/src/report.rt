@@ -1,7 +1,7 @@
 //! Reports as texts, and their lines.
 
-use pg_base::{Failed, Limits, MemSink};
-use pg_graph::{BuildError, Graph, GraphBuilder};
+use crate::samples::graph_of;
+use pg_base::{Failed, MemSink};
 use pg_law::{Datum, EdgeWords, End, State};
 use pg_report::{LastLine, read_report_line, write_head, write_tail};
 use pg_words::{EngineName, ProgramName};
@@ -17,7 +17,7 @@ fn begins(
     program: ProgramName,
     line: &str,
 ) -> Result<(), Fail> {
-    let graph = path_of_four(alloc)?;
+    let graph = graph_of(rt, alloc, EDGES.as_slice())?;
     let mut sink = sink(alloc, 1000)?;
     let written = write_head(&mut sink, engine, program, &graph);
     let text = format!(in alloc; "{line}\n# vertices 4 edges 3 loops 1\n")?;
@@ -65,9 +65,8 @@ fn ends(
     last: LastLine,
     text: &str,
 ) -> Result<(), Fail> {
-    let graph = path_of_four(alloc)?;
-    let left = [(1, 0, None), (1, 1, None), (1, 2, Some(7)), (4, 3, Some(1))];
-    let state = state_of(alloc, left.as_slice())?;
+    let graph = graph_of(rt, alloc, EDGES.as_slice())?;
+    let state = state_left(alloc)?;
     assert_eq!(rt; state.values.len(), graph.vertices() as usize);
     assert_eq!(rt; state.messages.len(), graph.vertices() as usize);
     let mut sink = sink(alloc, 1000)?;
@@ -132,7 +131,7 @@ fn a_report_ends_with_values_and_signals_and_what_the_run_took(
 
 #[test]
 fn a_sink_without_room_fails_and_has_a_front(rt: HostRuntime) -> Result<(), Fail> {
-    let graph = path_of_four(rt.alloc())?;
+    let graph = graph_of(&rt, rt.alloc(), EDGES.as_slice())?;
     let mut sink = sink(rt.alloc(), 30)?;
     let written = write_head(&mut sink, EngineName::Sync, ProgramName::Components, &graph);
     assert_eq!(rt; written, Err(Failed));
@@ -233,27 +232,21 @@ fn other_lines_are_none(rt: HostRuntime) -> Result<(), Fail> {
 }
 
 /// The path from 1 over 2 and 3 to 4, and a loop at 4.
-fn path_of_four(alloc: Global) -> Result<Graph, BuildError> {
-    let mut builder = GraphBuilder::new(alloc, Limits::standard())?;
-    builder.edge(1, 2, 1)?;
-    builder.edge(2, 3, 1)?;
-    builder.edge(3, 4, 1)?;
-    builder.edge(4, 4, 1)?;
-    Ok(builder.finish()?)
-}
+const EDGES: [(u32, u32); 4] = [(1, 2), (2, 3), (3, 4), (4, 4)];
 
-/// A state of a vertex for each row: both words of its datum, and its message.
-fn state_of(alloc: Global, rows: &[(u64, u64, Option<u64>)]) -> Result<State, AllocError> {
-    let mut values = Vec::new(alloc);
-    let mut messages = Vec::new(alloc);
-    for (first, second, message) in rows {
-        values.push(Datum::two(*first, *second))?;
-        messages.push(*message)?;
-    }
+/// The data and messages of four vertices.
+fn state_left(alloc: Global) -> Result<State, AllocError> {
+    let values = [
+        Datum::one(1),
+        Datum::two(1, 1),
+        Datum::two(1, 2),
+        Datum::two(4, 3),
+    ];
+    let messages = [None, None, Some(7), Some(1)];
     Ok(State {
-        values,
+        values: Vec::from_slice(alloc, values.as_slice())?,
         edges: EdgeWords::new(alloc),
-        messages,
+        messages: Vec::from_slice(alloc, messages.as_slice())?,
     })
 }
 

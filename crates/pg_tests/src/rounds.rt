@@ -1,8 +1,8 @@
 //! Rounds of a small program whose edge words matter.
 ghost use Rattle.std.specs.Prelude.{◌≡◌, max};
 
-use pg_base::Limits;
-use pg_graph::{BuildError, Dir, EdgeInfo, Graph, GraphBuilder, VertexInfo};
+use crate::samples::graph_of;
+use pg_graph::{Dir, EdgeInfo, Graph, VertexInfo};
 use pg_law::{Applied, Datum, Delta, End, Near, Scattered, Started, State, Steps, VertexProgram};
 use pg_rounds::{plain_round, run_rounds};
 use std::alloc::{AllocError, Global};
@@ -110,50 +110,81 @@ impl VertexProgram for Rising {
     ghost lawful = { λ _. rising_lawful };
 }
 
-/// The ids 1 to 4, with the edges 1-2, 2-3 twice, and 4-3.
-fn small_graph(rt: &impl Abort, alloc: Global) -> Result<Graph, BuildError> {
-    let mut builder = GraphBuilder::new(alloc, Limits::standard())?;
-    for (src_id, dst_id) in [(1, 2), (2, 3), (2, 3), (4, 3)] {
-        assert!(rt; builder.loops() == 0);
-        builder.edge(src_id, dst_id, 1)?;
-    }
-    Ok(builder.finish()?)
+/// The ids 1 to 4, with two parallel edges.
+const EDGES: [(u32, u32); 4] = [(1, 2), (2, 3), (2, 3), (4, 3)];
+
+/// What a run took, and how it ended.
+#[derive(Clone, Copy)]
+struct Took {
+    rounds: u32,
+    executions: u64,
+    gathers: u64,
+    end: End,
 }
+
+/// A run of at most so many rounds takes so much, and leaves these labels and words.
+fn leaves(
+    rt: &impl Abort,
+    alloc: Global,
+    limit: u32,
+    took: Took,
+    labels: &[u64],
+    words: &[u64],
+) -> Result<(), Fail> {
+    let graph = graph_of(rt, alloc, EDGES.as_slice())?;
+    let mut state = State::start(alloc, &Rising, &graph)?;
+    let mut steps = Steps::<Brand>::new();
+    let ended = run_rounds(alloc, &Rising, &graph, &mut state, limit, &mut steps)?;
+    assert_eq!(rt; ended.rounds, took.rounds, "limit {limit}");
+    assert_eq!(rt; ended.executions, took.executions, "limit {limit}");
+    assert_eq!(rt; ended.gathers, took.gathers, "limit {limit}");
+    assert_eq!(rt; ended.end, took.end, "limit {limit}");
+    assert_eq!(rt; state.values.len(), labels.len(), "limit {limit}");
+    for v in 0..labels.len() {
+        assert_eq!(rt; state.values[v], Datum::one(labels[v]), "limit {limit}");
+    }
+    let left = state.edges.to_vec(alloc)?;
+    assert_eq!(rt; left.as_slice(), words, "limit {limit}");
+    Ok(())
+}
+
+const NONE: Took = Took {
+    rounds: 0,
+    executions: 0,
+    gathers: 0,
+    end: End::Spent,
+};
+
+const ONE: Took = Took {
+    rounds: 1,
+    executions: 4,
+    gathers: 8,
+    end: End::Spent,
+};
+
+const TWO: Took = Took {
+    rounds: 2,
+    executions: 7,
+    gathers: 15,
+    end: End::Spent,
+};
+
+const ALL: Took = Took {
+    rounds: 3,
+    executions: 8,
+    gathers: 16,
+    end: End::Quiescent,
+};
 
 // Two edges join vertices that execute both, two are parallel, and 3 is signalled from both sides.
 #[test]
 fn rounds_are_those_that_were_counted_by_hand(rt: HostRuntime) -> Result<(), Fail> {
     let alloc = rt.alloc();
-    let graph = small_graph(&rt, alloc)?;
-    let rows = [
-        (0, (0, 0, 0), [1, 2, 3, 4], [0, 0, 0, 0], End::Spent),
-        (1, (1, 4, 8), [2, 3, 4, 4], [3, 4, 4, 4], End::Spent),
-        (2, (2, 7, 15), [3, 4, 4, 4], [4, 4, 4, 4], End::Spent),
-        (3, (3, 8, 16), [4, 4, 4, 4], [4, 4, 4, 4], End::Quiescent),
-        (9, (3, 8, 16), [4, 4, 4, 4], [4, 4, 4, 4], End::Quiescent),
-    ];
-    for (limit, took, labels, words, end) in rows {
-        let mut state = State::start(alloc, &Rising, &graph)?;
-        let mut steps = Steps::<Brand>::new();
-        let ended = run_rounds(alloc, &Rising, &graph, &mut state, limit, &mut steps)?;
-        assert_eq!(rt;
-            (ended.rounds, ended.executions, ended.gathers),
-            took,
-            "limit {limit}"
-        );
-        assert_eq!(rt; ended.end, end, "limit {limit}");
-        assert_eq!(rt;
-            state.values.as_slice(),
-            labels.map(|label| Datum::one(label)).as_slice(),
-            "limit {limit}"
-        );
-        assert_eq!(rt;
-            state.edges.to_vec(alloc)?.as_slice(),
-            words.as_slice(),
-            "limit {limit}"
-        );
-    }
-    Ok(())
+    leaves(&rt, alloc, 0, NONE, &[1, 2, 3, 4], &[0, 0, 0, 0])?;
+    leaves(&rt, alloc, 1, ONE, &[2, 3, 4, 4], &[3, 4, 4, 4])?;
+    leaves(&rt, alloc, 2, TWO, &[3, 4, 4, 4], &[4, 4, 4, 4])?;
+    leaves(&rt, alloc, 3, ALL, &[4, 4, 4, 4], &[4, 4, 4, 4])?;
+    leaves(&rt, alloc, 9, ALL, &[4, 4, 4, 4], &[4, 4, 4, 4])
 }
 
 /// The state after so many plain rounds.
@@ -169,7 +200,7 @@ fn after_plain_rounds(alloc: Global, graph: &Graph, rounds: u32) -> Result<State
 #[test]
 fn plain_rounds_agree(rt: HostRuntime) -> Result<(), Fail> {
     let alloc = rt.alloc();
-    let graph = small_graph(&rt, alloc)?;
+    let graph = graph_of(&rt, alloc, EDGES.as_slice())?;
     for limit in 0..4 {
         let plain = after_plain_rounds(alloc, &graph, limit)?;
         let mut state = State::start(alloc, &Rising, &graph)?;

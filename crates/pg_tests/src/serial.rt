@@ -1,9 +1,10 @@
 //! Serial executions of each program, with journals that were worked out apart from the engine.
 ghost use Rattle.std.specs.Prelude.{◌≡◌};
 
-use pg_base::{Limits, MemSink, NullSink};
+use crate::samples::graph_of;
+use pg_base::{MemSink, NullSink};
 use pg_colour::Colour;
-use pg_graph::{Graph, GraphBuilder};
+use pg_graph::Graph;
 use pg_journal::JournalText;
 use pg_law::{AsyncEnd, AsyncError, Datum, End, JournalEntry, State, Steps, VertexProgram};
 use pg_paths::{Components, Tree};
@@ -17,16 +18,6 @@ const PATH: [(u32, u32); 3] = [(1, 2), (2, 3), (3, 4)];
 
 /// Two ways of one length from 1 to 4.
 const DIAMOND: [(u32, u32); 4] = [(1, 2), (1, 3), (2, 4), (3, 4)];
-
-/// The graph of these edges, of weight 1.
-fn graph_of(rt: &impl Abort, alloc: Global, edges: &[(u32, u32)]) -> Result<Graph, Fail> {
-    let mut builder = GraphBuilder::new(alloc, Limits::standard())?;
-    for (source, target) in edges {
-        assert!(rt; builder.loops() == 0);
-        builder.edge(*source, *target, 1)?;
-    }
-    Ok(builder.finish()?)
-}
 
 /// A run from the start, and what the sink got.
 #[derive(Drop)]
@@ -165,21 +156,28 @@ fn a_failing_sink_has_a_front_of_the_journal(rt: HostRuntime) -> Result<(), Fail
     Ok(())
 }
 
-/// A path from 1 to 3,000, and the journal of its components.
-fn long_path(rt: &impl Abort, alloc: Global) -> Result<(Graph, String), Fail> {
-    let mut builder = GraphBuilder::new(alloc, Limits::standard())?;
-    let mut journal = String::from_str(alloc, "@1\t1\n")?;
+/// The path from 1 to 3,000.
+fn long_path(rt: &impl Abort, alloc: Global) -> Result<Graph, Fail> {
+    let mut edges = Vec::new(alloc);
     for id in 2..3_001u32 {
-        assert!(rt; builder.loops() == 0);
-        builder.edge(id - 1, id, 1)?;
+        edges.push((id - 1, id))?;
+    }
+    graph_of(rt, alloc, edges.as_slice())
+}
+
+/// The journal of its components.
+fn long_journal(alloc: Global) -> Result<String, AllocError> {
+    let mut journal = String::new(alloc);
+    for id in 1..3_001u32 {
         journal.push_str(format!(in alloc; "@{id}\t1\n")?.as_str())?;
     }
-    Ok((builder.finish()?, journal))
+    Ok(journal)
 }
 
 #[test]
 fn a_journal_that_is_longer_than_the_buffer_is_whole(rt: HostRuntime) -> Result<(), Fail> {
-    let (graph, journal) = long_path(&rt, rt.alloc())?;
+    let graph = long_path(&rt, rt.alloc())?;
+    let journal = long_journal(rt.alloc())?;
     let run = run_of(rt.alloc(), &Components::new(), &graph, 9_000, 1_000, &[])?;
     let ended = run.end?;
     assert!(rt; run.sink.bytes() == journal.as_bytes());
@@ -195,7 +193,7 @@ fn a_journal_that_is_longer_than_the_buffer_is_whole(rt: HostRuntime) -> Result<
 #[test]
 fn a_run_may_write_nowhere(rt: HostRuntime) -> Result<(), Fail> {
     let alloc = rt.alloc();
-    let (graph, _journal) = long_path(&rt, alloc)?;
+    let graph = long_path(&rt, alloc)?;
     let state = State::start(alloc, &Components::new(), &graph)?;
     let text = JournalText { wide: false };
     let mut steps = Steps::<Brand>::new();
