@@ -69,86 +69,78 @@ fn cut_by(
     }
 }
 
-#[test]
-fn a_table_goes_by_case_and_then_by_load_and_order(rt: HostRuntime) -> Result<(), Fail> {
-    let rows: [(&[(u32, u32)], u8, u8, &[(u8, u8)]); 4] = [
-        (&[(1, 2), (3, 4), (1, 3)], 2, 0, &[(0, 4), (1, 4), (0, 2)]),
-        (
-            &[(1, 2), (3, 4), (1, 3), (3, 5)],
-            2,
-            0,
-            &[(0, 4), (1, 4), (1, 2), (1, 3)],
-        ),
-        (&[(1, 2), (3, 4), (5, 6)], 3, 2, &[(2, 4), (0, 4), (1, 4)]),
-        (&[(1, 2), (2, 1), (2, 3)], 3, 1, &[(1, 4), (1, 1), (1, 3)]),
-    ];
-    for (edges, workers, first, wanted) in rows {
-        let graph = graph_of(&rt, rt.alloc(), edges)?;
-        let placed = placed_by(&rt, rt.alloc(), &graph, workers, first)?;
-        assert_eq!(rt; placed.len(), wanted.len());
-        for (found, (worker, case)) in placed.iter().zip(wanted) {
-            assert_eq!(rt; (found.worker, found.case), (*worker, *case));
-        }
+/// One table sends the edges to these workers, in these cases.
+fn goes(
+    rt: &impl Abort,
+    alloc: Global,
+    edges: &[(u32, u32)],
+    workers: u8,
+    first: u8,
+    wanted: &[(u8, u8)],
+) -> Result<(), Fail> {
+    let graph = graph_of(rt, alloc, edges)?;
+    let placed = placed_by(rt, alloc, &graph, workers, first)?;
+    assert_eq!(rt; placed.len(), wanted.len());
+    for e in 0..wanted.len() {
+        assert_eq!(rt; (placed[e].worker, placed[e].case), wanted[e], "edge {e}");
     }
     Ok(())
 }
 
 #[test]
-fn places_and_cases_are_those_of_the_loaders(rt: HostRuntime) -> Result<(), Fail> {
-    let rows: [(&[(u32, u32)], bool, u8, u8, &[u8], [u64; 4]); 7] = [
-        (
-            &[(1, 2), (2, 3), (3, 4)],
-            true,
-            3,
-            3,
-            &[0, 1, 2],
-            [0, 0, 0, 3],
-        ),
-        (
-            &[(1, 2), (2, 3), (3, 4)],
-            true,
-            3,
-            1,
-            &[0, 0, 0],
-            [0, 0, 2, 1],
-        ),
-        (&[(5, 6), (5, 6)], true, 2, 2, &[0, 1], [0, 0, 0, 2]),
-        (&[(5, 6), (5, 6)], true, 2, 1, &[0, 0], [1, 0, 0, 1]),
-        (
-            &[(1, 2), (3, 4), (1, 3)],
-            false,
-            2,
-            1,
-            &[0, 1, 0],
-            [0, 1, 0, 2],
-        ),
-        (
-            &[(1, 2), (3, 4), (1, 3), (3, 5)],
-            false,
-            2,
-            1,
-            &[0, 1, 1, 1],
-            [0, 1, 1, 2],
-        ),
-        (
-            &[(0, 1), (0, 2), (0, 3), (0, 4)],
-            false,
-            2,
-            2,
-            &[0, 1, 0, 1],
-            [0, 0, 2, 2],
-        ),
-    ];
-    for (edges, together, workers, loaders, places, cases) in rows {
-        let graph = graph_of(&rt, rt.alloc(), edges)?;
-        let made = cut_by(&rt, rt.alloc(), &graph, together, workers, loaders)?;
-        assert_eq!(rt; made.cases, cases);
-        for (e, place) in places.iter().enumerate() {
-            assert!(rt; e < graph.edges().len());
-            assert_eq!(rt; made.cut.place(e as u32), *place, "edge {e}");
-        }
+fn a_table_goes_by_case_and_then_by_load_and_order(rt: HostRuntime) -> Result<(), Fail> {
+    let alloc = rt.alloc();
+    let three = [(1, 2), (3, 4), (1, 3)];
+    goes(&rt, alloc, &three, 2, 0, &[(0, 4), (1, 4), (0, 2)])?;
+    let four = [(1, 2), (3, 4), (1, 3), (3, 5)];
+    goes(&rt, alloc, &four, 2, 0, &[(0, 4), (1, 4), (1, 2), (1, 3)])?;
+    let apart = [(1, 2), (3, 4), (5, 6)];
+    goes(&rt, alloc, &apart, 3, 2, &[(2, 4), (0, 4), (1, 4)])?;
+    let back = [(1, 2), (2, 1), (2, 3)];
+    goes(&rt, alloc, &back, 3, 1, &[(1, 4), (1, 1), (1, 3)])
+}
+
+/// A cut sends the edges to these workers, and counts these cases.
+fn cuts(
+    rt: &impl Abort,
+    alloc: Global,
+    edges: &[(u32, u32)],
+    together: bool,
+    workers: u8,
+    loaders: u8,
+    places: &[u8],
+    cases: [u64; 4],
+) -> Result<(), Fail> {
+    let graph = graph_of(rt, alloc, edges)?;
+    let made = cut_by(rt, alloc, &graph, together, workers, loaders)?;
+    assert_eq!(rt; made.cases, cases);
+    for e in 0..places.len() {
+        assert!(rt; e < graph.edges().len());
+        assert_eq!(rt; made.cut.place(e as u32), places[e], "edge {e}");
     }
     Ok(())
+}
+
+#[test]
+fn places_and_cases_are_those_of_loaders_together(rt: HostRuntime) -> Result<(), Fail> {
+    let alloc = rt.alloc();
+    let path = [(1, 2), (2, 3), (3, 4)];
+    cuts(&rt, alloc, &path, true, 3, 3, &[0, 1, 2], [0, 0, 0, 3])?;
+    cuts(&rt, alloc, &path, true, 3, 1, &[0, 0, 0], [0, 0, 2, 1])?;
+    let twins = [(5, 6), (5, 6)];
+    cuts(&rt, alloc, &twins, true, 2, 2, &[0, 1], [0, 0, 0, 2])?;
+    cuts(&rt, alloc, &twins, true, 2, 1, &[0, 0], [1, 0, 0, 1])
+}
+
+#[test]
+fn places_and_cases_are_those_of_loaders_alone(rt: HostRuntime) -> Result<(), Fail> {
+    let alloc = rt.alloc();
+    let three = [(1, 2), (3, 4), (1, 3)];
+    cuts(&rt, alloc, &three, false, 2, 1, &[0, 1, 0], [0, 1, 0, 2])?;
+    let four = [(1, 2), (3, 4), (1, 3), (3, 5)];
+    cuts(&rt, alloc, &four, false, 2, 1, &[0, 1, 1, 1], [0, 1, 1, 2])?;
+    let star = [(0, 1), (0, 2), (0, 3), (0, 4)];
+    cuts(&rt, alloc, &star, false, 2, 2, &[0, 1, 0, 1], [0, 0, 2, 2])
 }
 
 /// That a cut with as many loaders as workers has these loads and replicas on its workers.

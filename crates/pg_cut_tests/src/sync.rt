@@ -176,23 +176,29 @@ fn one_worker_gathers_as_three_do(rt: HostRuntime) -> Result<(), Fail> {
     Ok(())
 }
 
+/// At most so many rounds on the path take so much, and leave these labels.
+fn stops<R: Threads + Sync + Abort>(
+    rt: &R,
+    alloc: Global,
+    limit: u32,
+    executions: u64,
+    gathers: u64,
+    values: &[u64],
+) -> Result<(), Fail> {
+    let graph = graph_of(rt, alloc, PATH.edges)?;
+    let case = Case { limit, ..PATH };
+    let end = end_of(rt, alloc, &Components, &graph, case, &NoGate)?;
+    assert_eq!(rt; end.end, End::Spent, "limit {limit}");
+    assert_took(rt, &end, limit, executions, gathers);
+    assert_values(rt, &end.state, values);
+    Ok(())
+}
+
 #[test]
 fn a_limit_stops_the_rounds(rt: HostRuntime) -> Result<(), Fail> {
-    let alloc = rt.alloc();
-    let graph = graph_of(&rt, alloc, PATH.edges)?;
-    let rows: [(u32, u64, u64, [u64; 4]); 3] = [
-        (0, 0, 0, [1, 2, 3, 4]),
-        (1, 4, 6, [1, 1, 2, 3]),
-        (2, 6, 9, [1, 1, 1, 2]),
-    ];
-    for (limit, executions, gathers, values) in rows {
-        let case = Case { limit, ..PATH };
-        let end = end_of(&rt, alloc, &Components, &graph, case, &NoGate)?;
-        assert_eq!(rt; end.end, End::Spent, "limit {limit}");
-        assert_took(&rt, &end, limit, executions, gathers);
-        assert_values(&rt, &end.state, &values);
-    }
-    Ok(())
+    stops(&rt, rt.alloc(), 0, 0, 0, &[1, 2, 3, 4])?;
+    stops(&rt, rt.alloc(), 1, 4, 6, &[1, 1, 2, 3])?;
+    stops(&rt, rt.alloc(), 2, 6, 9, &[1, 1, 1, 2])
 }
 
 /// Two workers that wait for each other, each for a thousand million turns at most.
