@@ -4,12 +4,16 @@ ghost use Rattle.std.specs.Prelude.{MatchBool, IsFalse, OnErr, if◌then◌else�
 ghost use Rattle.pg_law.specs.Configuration.{IsFit};
 ghost use Rattle.pg_law.specs.Journal.{IsLegal};
 ghost use Rattle.pg_cut.specs.Cut.{IsCutOf, Division};
+ghost use Rattle.pg_meals.specs.Boards.{Frame};
 ghost use Rattle.pg_meals.specs.Steps.{IsWithin, MakesOn, RefusesOn};
 ghost use Rattle.pg_meals.specs.Prepares.{MayNotPrepare, PreparesOn, cost_by};
 ghost use Rattle.pg_meals.specs.Opened.{cells_in, IsOpened};
 ghost use Rattle.pg_meals.specs.Tables.{AreCaches, IsSameTable, IsQuietTable, IsFirstOf};
 ghost use Rattle.pg_meals.specs.Tables.{state_of};
 ghost use Rattle.pg_meals.specs.Closing.{AllFree, OneBusy, AreLeft};
+ghost use Rattle.pg_meals.specs.Carrying.{IsKept};
+ghost use Rattle.pg_meals.specs.Entries.{actor_at, at_side, fork_at};
+ghost use Rattle.pg_meals.specs.Least.{has_own};
 
 use crate::act::{Act, Outcome};
 use crate::board::Board;
@@ -18,7 +22,7 @@ use crate::preparing::prepare_on;
 use crate::room::Room;
 use pg_cut::Cut;
 use pg_delta::CacheCell;
-use pg_graph::Graph;
+use pg_graph::{Graph, Side};
 use pg_law::{JournalEntry, State, Steps, VertexProgram, laws_of};
 use std::alloc::{AllocError, Global};
 use std::marker::Model;
@@ -81,6 +85,7 @@ impl<'g, P: VertexProgram> MealTable<'g, P> {
         requires caches { AreCaches (P.meaning program.now) graph.now cut.now state caches }
         ensures opened { IfOk result (λ table.
             IsOpened graph.now cut.now state (cells_in caches) table.board) }
+        ensures program { IfOk result (λ table. table.program ≡ program.now) }
         ensures graph { IfOk result (λ table. table.graph ≡ graph.now) }
         ensures opening { IfOk result (λ table. table.opening ≡ state) }
         ensures actors { IfOk result (λ table. length table.board.actors.items ≡ actors) }
@@ -108,6 +113,9 @@ impl<'g, P: VertexProgram> MealTable<'g, P> {
             (MakesOn self.old.graph self.old.board actor act self.new.board) }
         ensures refused { IsNone result → RefusesOn self.old.graph self.old.board actor act }
         ensures same { IsSameTable self.old self.new }
+        ensures frame { Frame self.old.board self.new.board }
+        ensures kept { IsKept (P.meaning self.new.program) self.new.graph self.new.opening
+            self.new.board }
     {
         laws_of(self.program);
         self.board.step(self.graph, actor, act)
@@ -136,6 +144,7 @@ impl<'g, P: VertexProgram> MealTable<'g, P> {
             ≡ steps.old + (if made then cost_by p self.old.graph self.old.board actor else 0)) }
         ensures err { OnErr result (self.new ≡ self.old) }
         ensures same { IsSameTable self.old self.new }
+        ensures frame { Frame self.old.board self.new.board }
     {
         laws_of(self.program);
         prepare_on(
@@ -146,6 +155,33 @@ impl<'g, P: VertexProgram> MealTable<'g, P> {
             actor,
             steps,
         )
+    }
+
+    /// The vertex that an actor has in hand.
+    pub fn vertex_of(&self, actor: u32) -> Option<u32>
+        requires { actor < length self.now.board.actors.items }
+        ensures value { result ≡ (actor_at self.now.board.actors.items actor).vertex }
+        ensures kept { IsKept (P.meaning self.now.program) self.now.graph self.now.opening
+            self.now.board }
+    {
+        self.board.actors[actor as usize].vertex
+    }
+
+    /// Whether a message waits in the place of a vertex.
+    pub fn waits_at(&self, vertex: u32) -> bool
+        requires { vertex < length self.now.graph.ids }
+        ensures { result ≡ has_own self.now.board vertex }
+    {
+        self.board.seats[vertex as usize].message.is_some()
+    }
+
+    /// Whether a message waits for an end of an edge, on its fork.
+    pub fn waits_over(&self, edge: u32, end: Side) -> bool
+        requires { edge < length self.now.graph.edges }
+        ensures { result ≡
+            is_some (at_side end (fork_at 0 self.now.board.forks.items edge).content).message }
+    {
+        self.board.forks[edge as usize].content.waits(end)
     }
 
     /// The signalled vertex of least rank.

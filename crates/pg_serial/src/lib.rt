@@ -10,6 +10,7 @@ mod serial;
 mod signal_set;
 mod writing;
 
+pub use entries::{ROOM, flush, put_entry};
 pub use execution::{execute, execute_signalled};
 pub use replaying::{Replayed, replay};
 pub use scatter::Sent;

@@ -17,3 +17,6 @@ invariant_of-self g c = (
 pub returns-clause-refused : goal.returns-clause-refused
 returns-clause-refused g c = λ n h.
     subst (λ (t : Table _ _). RefusesOn t.graph t.board c.args.actor c.args.act) c.self.view_is (c.step.ensures.refused n) h
+
+pub returns-clause-kept : goal.returns-clause-kept
+returns-clause-kept g c = (invariant_of-self g c).0
