@@ -1,10 +1,10 @@
 -- What stands with an option more: that option, and what stood before. A new option is a row in each of these.
-use Rattle.std.proofs.Common.{◌≡◌, ◌≢◌, ℕ, ◌^◌, ◌-◌, true, false, ◌||◌, Option, Some, None, eqb, refl, sym, ap, ◌∙◌, subst, zero, suc}
+use Rattle.std.proofs.Common.{◌≡◌, ◌≢◌, ℕ, ◌^◌, ◌-◌, Bool, true, false, ◌||◌, Option, Some, None, is_some, eqb, refl, sym, ap, ◌∙◌, subst, zero, suc}
 use Rattle.std.specs.Option.{option_map}
 use Rattle.pg_base.specs.Numbers.{number_of}
 use Rattle.pg_readers.specs.declared.line.Format.{Format}
 use Rattle.pg_words.specs.Names.{Word, named, formats, format_word, cuts, cut_word}
-use Rattle.pg_words.specs.Options.{no_choices, stands, number_from, with_flag, with_value}
+use Rattle.pg_words.specs.Options.{no_choices, stands, excludes, is_excluded, number_from, with_flag, with_value}
 use Rattle.pg_words.specs.Jobs.{with_setting}
 use Rattle.pg_words.specs.declared.choices.Choices.{Choices}
 use Rattle.pg_words.specs.declared.names.CutWord.{CutWord}
@@ -21,9 +21,10 @@ row option.Seed = 3
 row option.Rounds = 4
 row option.Fuel = 5
 row option.Serial = 6
-row option.Source = 7
-row option.Tolerance = 8
-row option.Cache = 9
+row option.Virtual = 7
+row option.Source = 8
+row option.Tolerance = 9
+row option.Cache = 10
 
 -- an option by its number
 abbrev pub at_row : ℕ → OptionName
@@ -34,8 +35,9 @@ at_row (suc (suc (suc zero))) = option.Seed
 at_row (suc (suc (suc (suc zero)))) = option.Rounds
 at_row (suc (suc (suc (suc (suc zero))))) = option.Fuel
 at_row (suc (suc (suc (suc (suc (suc zero)))))) = option.Serial
-at_row (suc (suc (suc (suc (suc (suc (suc zero))))))) = option.Source
-at_row (suc (suc (suc (suc (suc (suc (suc (suc zero)))))))) = option.Tolerance
+at_row (suc (suc (suc (suc (suc (suc (suc zero))))))) = option.Virtual
+at_row (suc (suc (suc (suc (suc (suc (suc (suc zero)))))))) = option.Source
+at_row (suc (suc (suc (suc (suc (suc (suc (suc (suc zero))))))))) = option.Tolerance
 at_row _ = option.Cache
 
 pub at_row-row : (option : OptionName) → at_row (row option) ≡ option
@@ -46,6 +48,7 @@ at_row-row option.Seed = refl
 at_row-row option.Rounds = refl
 at_row-row option.Fuel = refl
 at_row-row option.Serial = refl
+at_row-row option.Virtual = refl
 at_row-row option.Source = refl
 at_row-row option.Tolerance = refl
 at_row-row option.Cache = refl
@@ -59,9 +62,32 @@ stands-none option.Seed = refl
 stands-none option.Rounds = refl
 stands-none option.Fuel = refl
 stands-none option.Serial = refl
+stands-none option.Virtual = refl
 stands-none option.Source = refl
 stands-none option.Tolerance = refl
 stands-none option.Cache = refl
+
+-- none excludes any
+pub excluded-none : (option : OptionName) → is_excluded no_choices option ≡ false
+excluded-none option.Serial = refl
+excluded-none option.Virtual = refl
+excluded-none option.Cache = refl
+excluded-none _ = refl
+
+-- of two options that never stand together each excludes the other
+pub excludes-comm : (option other : OptionName) → excludes option other ≡ excludes other option
+excludes-comm option.Format option.Format = refl
+excludes-comm option.Workers option.Format = refl
+excludes-comm option.Cut option.Format = refl
+excludes-comm option.Seed option.Format = refl
+excludes-comm option.Rounds option.Format = refl
+excludes-comm option.Fuel option.Format = refl
+excludes-comm option.Serial option.Format = refl
+excludes-comm option.Virtual option.Format = refl
+excludes-comm option.Source option.Format = refl
+excludes-comm option.Tolerance option.Format = refl
+excludes-comm option.Cache option.Format = refl
+excludes-comm option other = refl
 
 -- what an option sets: its value, or itself
 pub data Value : Type 0 where
@@ -72,6 +98,7 @@ pub data Value : Type 0 where
   of_rounds : ℕ → Value
   of_fuel : ℕ → Value
   of_serial : Value
+  of_virtual : ℕ → Value
   of_source : ℕ → Value
   of_tolerance : ℕ → Value
   of_cache : Value
@@ -85,6 +112,7 @@ option_of (of_seed x) = option.Seed
 option_of (of_rounds x) = option.Rounds
 option_of (of_fuel x) = option.Fuel
 option_of of_serial = option.Serial
+option_of (of_virtual x) = option.Virtual
 option_of (of_source x) = option.Source
 option_of (of_tolerance x) = option.Tolerance
 option_of of_cache = option.Cache
@@ -98,6 +126,7 @@ put c (of_seed x) = record c { seed = Some x }
 put c (of_rounds x) = record c { rounds = Some x }
 put c (of_fuel x) = record c { fuel = Some x }
 put c of_serial = record c { serial = true }
+put c (of_virtual x) = record c { virtual_seed = Some x }
 put c (of_source x) = record c { source = Some x }
 put c (of_tolerance x) = record c { tolerance = Some x }
 put c of_cache = record c { cache = true }
@@ -112,10 +141,32 @@ stands-put c (of_seed x) option.Format = refl
 stands-put c (of_rounds x) option.Format = refl
 stands-put c (of_fuel x) option.Format = refl
 stands-put c of_serial option.Format = refl
+stands-put c (of_virtual x) option.Format = refl
 stands-put c (of_source x) option.Format = refl
 stands-put c (of_tolerance x) option.Format = refl
 stands-put c of_cache option.Format = refl
 stands-put c value other = refl
+
+or_true : (b : Bool) → true ≡ (b || true)
+or_true true = refl
+or_true false = refl
+
+-- it excludes then what that option does, and what was excluded before
+excluded-put : (c : Choices) (value : Value) (other : OptionName)
+    → is_excluded (put c value) other ≡ (excludes (option_of value) other || is_excluded c other)
+excluded-put c (of_format x) option.Format = refl
+excluded-put c (of_workers x) option.Format = refl
+excluded-put c (of_cut x) option.Format = refl
+excluded-put c (of_seed x) option.Format = refl
+excluded-put c (of_rounds x) option.Format = refl
+excluded-put c (of_fuel x) option.Format = refl
+excluded-put c of_serial option.Format = refl
+excluded-put c (of_virtual x) option.Format = refl
+excluded-put c (of_source x) option.Format = refl
+excluded-put c (of_tolerance x) option.Format = refl
+excluded-put c of_cache option.Format = refl
+excluded-put c of_cache option.Serial = sym (or_true (is_some c.virtual_seed))
+excluded-put c value other = refl
 
 -- values of two options may change places
 pub put-comm : (c : Choices) (value other : Value) → option_of value ≢ option_of other
@@ -127,6 +178,7 @@ put-comm c (of_seed x) (of_seed y) apart = absurd (apart refl)
 put-comm c (of_rounds x) (of_rounds y) apart = absurd (apart refl)
 put-comm c (of_fuel x) (of_fuel y) apart = absurd (apart refl)
 put-comm c of_serial of_serial apart = refl
+put-comm c (of_virtual x) (of_virtual y) apart = absurd (apart refl)
 put-comm c (of_source x) (of_source y) apart = absurd (apart refl)
 put-comm c (of_tolerance x) (of_tolerance y) apart = absurd (apart refl)
 put-comm c of_cache of_cache apart = refl
@@ -172,6 +224,8 @@ with_value-IsPut c d option.Rounds word e =
 with_value-IsPut c d option.Fuel word e =
     read-IsPut of_fuel (number_of (2 ^ 32 - 1) word) c d option.Fuel word (λ _. refl) (λ _. refl) e
 with_value-IsPut c d option.Serial word e = cc
+with_value-IsPut c d option.Virtual word e =
+    read-IsPut of_virtual (number_of (2 ^ 64 - 1) word) c d option.Virtual word (λ _. refl) (λ _. refl) e
 with_value-IsPut c d option.Source word e =
     read-IsPut of_source (number_of (2 ^ 32 - 1) word) c d option.Source word (λ _. refl) (λ _. refl) e
 with_value-IsPut c d option.Tolerance word e =
@@ -198,3 +252,12 @@ stands-with_setting c d option word e other =
     let own = subst (λ (o : OptionName). stands (put c set.value) other ≡ (eqb (row o) (row other) || stands c other)) set.own
     (stands-put c set.value other) in
     subst (λ (more : Choices). stands more other ≡ (eqb (row option) (row other) || stands c other)) set.is own
+
+-- and what is excluded
+pub excluded-with_setting : (c d : Choices) (option : OptionName) (word : Option Word) → with_setting c option word ≡ Some d
+    → (other : OptionName) → is_excluded d other ≡ (excludes option other || is_excluded c other)
+excluded-with_setting c d option word e other =
+    let set = with_setting-IsPut c d option word e in
+    let own = subst (λ (o : OptionName). is_excluded (put c set.value) other ≡ (excludes o other || is_excluded c other)) set.own
+    (excluded-put c set.value other) in
+    subst (λ (more : Choices). is_excluded more other ≡ (excludes option other || is_excluded c other)) set.is own

@@ -61,19 +61,22 @@ program_ends head engine program.Rank kind c sourced is = stands_whole head c _ 
 program_ends head engine program.Tree kind c sourced is =
     source_ends head c c.source sourced (λ id. stands_whole head (record c { source = Some id }) _ (is (Some id)))
 
--- `--serial` can be added where it is missing
-serial_ends : (program : ProgramWord) (c : Choices) (serial : Bool)
-    → CanEnd (reading.Options (heads.Run Async program) (record c { serial = serial }))
-serial_ends program c true =
-    program_ends (heads.Run Async program) Async program job.Run (record c { serial = true }) refl (λ _. refl)
-serial_ends program c false =
-    then_ends _ _ (codes "--serial") refl
-    (program_ends (heads.Run Async program) Async program job.Run (record c { serial = true }) refl (λ _. refl))
+-- `--virtual` can be added where neither it nor `--serial` stands
+async_ends : (program : ProgramWord) (c : Choices) (serial : Bool) (seed : Option ℕ)
+    → CanEnd (reading.Options (heads.Run Async program) (record c { serial = serial; virtual_seed = seed }))
+async_ends program c true seed =
+    program_ends (heads.Run Async program) Async program job.Run (record c { serial = true; virtual_seed = seed }) refl (λ _. refl)
+async_ends program c false (Some seed) =
+    program_ends (heads.Run Async program) Async program job.Run (record c { serial = false; virtual_seed = Some seed }) refl (λ _. refl)
+async_ends program c false None =
+    then_ends _ _ (codes "--virtual") refl
+    (then_ends _ _ (codes "0") refl
+    (program_ends (heads.Run Async program) Async program job.Run (record c { serial = false; virtual_seed = Some 0 }) refl (λ _. refl)))
 
 -- a job stands or can be made, a row for each kind of job
 options_end : (head : Head) (c : Choices) → CanEnd (reading.Options head c)
 options_end (heads.Run Sync program) c = program_ends (heads.Run Sync program) Sync program job.Run c refl (λ _. refl)
-options_end (heads.Run Async program) c = serial_ends program c c.serial
+options_end (heads.Run Async program) c = async_ends program c c.serial c.virtual_seed
 options_end (heads.Check engine program) c = program_ends (heads.Check engine program) engine program job.Check c refl (λ _. refl)
 options_end heads.Cut c = stands_whole heads.Cut c _ refl
 
@@ -87,6 +90,7 @@ value_ends head c option.Seed waits = then_ends _ _ (codes "0") refl (options_en
 value_ends head c option.Rounds waits = then_ends _ _ (codes "0") refl (options_end head _)
 value_ends head c option.Fuel waits = then_ends _ _ (codes "0") refl (options_end head _)
 value_ends head c option.Serial waits = cc
+value_ends head c option.Virtual waits = then_ends _ _ (codes "0") refl (options_end head _)
 value_ends head c option.Source waits = then_ends _ _ (codes "0") refl (options_end head _)
 value_ends head c option.Tolerance waits = then_ends _ _ (codes "0") refl (options_end head _)
 value_ends head c option.Cache waits = cc

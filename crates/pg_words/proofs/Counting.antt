@@ -1,4 +1,4 @@
--- Each word that may follow is one more behind what stands, and there are twenty-four at most.
+-- Each word that may follow is one more behind what stands, and there are twenty-six at most.
 use Rattle.std.proofs.Common.{◌≡◌, ℕ, ◌+◌, ◌*◌, ◌<◌, ◌≤◌, List, [], ◌∷◌, length, Bool, true, false, ◌||◌, cond, Option, Some, None, Contains, count_by, refl, sym, ap, ◌∙◌, eqb, arith, zero, suc, lit<, lit≤, subst}
 use Rattle.std.proofs.lemmas.Bool.{eq-eqb}
 use Rattle.std.specs.List.{slice_index_or}
@@ -33,9 +33,10 @@ options-row option.Seed = (3, lit< tt, refl)
 options-row option.Rounds = (4, lit< tt, refl)
 options-row option.Fuel = (5, lit< tt, refl)
 options-row option.Serial = (6, lit< tt, refl)
-options-row option.Source = (7, lit< tt, refl)
-options-row option.Tolerance = (8, lit< tt, refl)
-options-row option.Cache = (9, lit< tt, refl)
+options-row option.Virtual = (7, lit< tt, refl)
+options-row option.Source = (8, lit< tt, refl)
+options-row option.Tolerance = (9, lit< tt, refl)
+options-row option.Cache = (10, lit< tt, refl)
 
 module _ {X : Type 0} (p q : X → Bool) (keeps : (x : X) → p x ≡ true → q x ≡ true) where
   one-keeps : (b c : Bool) → (b ≡ true → c ≡ true) → cond b 1 0 ≤ cond c 1 0
@@ -155,7 +156,7 @@ next-IsStep (reading.Lead lead) more word fresh e =
     subst (IsStep (reading.Lead lead)) (sym step.is) (led-IsStep lead step.led word step.next)
 next-IsStep (reading.Options head c) more word fresh e =
     let step = option_step head c word more e in
-    subst (IsStep (reading.Options head c)) (sym step.is) (behind-IsStep head c step.option (free_parts head c step.option step.free).1)
+    subst (IsStep (reading.Options head c)) (sym step.is) (behind-IsStep head c step.option (free_parts head c step.option step.free).new)
 next-IsStep (reading.Value head c option) more word fresh e =
     let step = value_step head c option word more e in
     let one = count-with_setting c step.chosen option (Some word) fresh.0 step.valued in

@@ -64,6 +64,7 @@ option_word-named option.Seed = refl
 option_word-named option.Rounds = refl
 option_word-named option.Fuel = refl
 option_word-named option.Serial = refl
+option_word-named option.Virtual = refl
 option_word-named option.Source = refl
 option_word-named option.Tolerance = refl
 option_word-named option.Cache = refl

@@ -20,7 +20,7 @@ use Rattle.pg_words.specs.declared.reading.Reading.{Reading}
 use Rattle.pg_words.specs.declared.reading.Reading.TheVariants as reading
 use Rattle.pg_words.proofs.Leading.{lead_parts, led_parts, lead_step, SpellAll-push, after-head_parts}
 use Rattle.pg_words.proofs.Naming.{option_word-named, option_step, value_step}
-use Rattle.pg_words.proofs.Choosing.{stands-none}
+use Rattle.pg_words.proofs.Choosing.{stands-none, excluded-none}
 use Rattle.pg_words.proofs.Settings.{Placed, Placed-MayStand, MayStand-Placed}
 
 -- what stands after words that are more than one stands after the first of them and then the others
@@ -106,7 +106,7 @@ pub Placed-IsJobOf : (head : Head) (settings : List Setting) (d : Choices) (job 
     → Placed head no_choices settings d → job_from head d ≡ Some job → IsJobOf head settings job
 Placed-IsJobOf head settings d job placed meant =
     let may = Placed-MayStand head no_choices settings d placed in
-    record { taken = may.taken; once = may.once; meant = rw may.made meant }
+    record { taken = may.taken; once = may.once; together = may.together; meant = rw may.made meant }
 
 pub record IsPlacedJob (head : Head) (settings : List Setting) (job : Job) : Type 0 where
   pub made : Choices
@@ -121,7 +121,9 @@ IsJobOf-Placed head settings job is =
       placed = MayStand-Placed head no_choices settings made (record {
         taken = is.taken;
         once = is.once;
+        together = is.together;
         new = λ k x inside. stands-none (slice_index_or settings k x).option;
+        allowed = λ k x inside. excluded-none (slice_index_or settings k x).option;
         made = chose;
       });
       meant = means;

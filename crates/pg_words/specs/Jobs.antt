@@ -1,8 +1,8 @@
 -- Which words name which job, and where words that name none go wrong.
-use Rattle.std.specs.Prelude.{◌≡◌, ◌≢◌, ℕ, ◌+◌, ◌<◌, ◌≤◌, List, [], ◌∷◌, ◌++◌, length, take, Option, Some, IsTrue, All, AllPairs, flat_map, option_and_then, None}
+use Rattle.std.specs.Prelude.{◌≡◌, ◌≢◌, ℕ, ◌+◌, ◌<◌, ◌≤◌, false, List, [], ◌∷◌, ◌++◌, length, take, Option, Some, IsTrue, All, AllPairs, flat_map, option_and_then, None}
 use Rattle.pg_words.specs.Names.{Word, engine_word, first_word, program_word, option_word}
 use Rattle.pg_words.specs.Parts.{Part, name, SpellAll}
-use Rattle.pg_words.specs.Options.{takes, no_choices, with_flag, with_value, job_from}
+use Rattle.pg_words.specs.Options.{takes, excludes, no_choices, with_flag, with_value, job_from}
 use Rattle.pg_words.specs.declared.choices.Choices.{Choices}
 use Rattle.pg_words.specs.declared.head.Head.{Head}
 use Rattle.pg_words.specs.declared.head.Head.TheVariants as heads
@@ -44,10 +44,11 @@ chosen c (setting ∷ settings) =
     option_and_then (λ more. chosen more settings) (with_setting c setting.option setting.value)
 
 -- the job of a head and settings, each of an option that may stand there, none of an option that
--- stands already
+-- stands already or that never stands together with one that does
 pub record IsJobOf (head : Head) (settings : List Setting) (job : Job) : Type 0 where
   pub taken : All (λ setting. IsTrue (takes head setting.option)) settings
   pub once : AllPairs (λ earlier later. earlier.option ≢ later.option) settings
+  pub together : AllPairs (λ earlier later. excludes earlier.option later.option ≡ false) settings
   pub meant : option_and_then (job_from head) (chosen no_choices settings) ≡ Some job
 
 -- the words name the job: they are the words of a head, and of settings in any order

@@ -75,6 +75,7 @@ options =
     ∷ option.Rounds
     ∷ option.Fuel
     ∷ option.Serial
+    ∷ option.Virtual
     ∷ option.Source
     ∷ option.Tolerance
     ∷ option.Cache
@@ -88,6 +89,7 @@ option_word option.Seed = codes "--seed"
 option_word option.Rounds = codes "--rounds"
 option_word option.Fuel = codes "--fuel"
 option_word option.Serial = codes "--serial"
+option_word option.Virtual = codes "--virtual"
 option_word option.Source = codes "--source"
 option_word option.Tolerance = codes "--tolerance"
 option_word option.Cache = codes "--cache"

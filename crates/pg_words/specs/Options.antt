@@ -1,5 +1,5 @@
 -- The options: where each may stand, what its value may be, and what holds where it doesn't stand.
-use Rattle.std.specs.Prelude.{ℕ, ◌^◌, ◌-◌, nat_le, Bool, true, false, ◌&&◌, Option, Some, None, is_some, unwrap_or, option_and_then, if◌then◌else◌}
+use Rattle.std.specs.Prelude.{ℕ, ◌^◌, ◌-◌, nat_le, Bool, true, false, ◌&&◌, ◌||◌, not, Option, Some, None, is_some, unwrap_or, option_and_then, if◌then◌else◌}
 use Rattle.std.specs.Option.{option_map}
 use Rattle.pg_base.specs.Numbers.{number_of}
 use Rattle.pg_readers.specs.declared.line.Format.TheVariants.{Snap}
@@ -35,9 +35,10 @@ run_takes engine program option.Seed = true
 run_takes engine program option.Rounds = has_rounds engine
 run_takes engine program option.Fuel = has_fuel engine
 run_takes engine program option.Serial = has_fuel engine
+run_takes engine program option.Virtual = has_fuel engine
 run_takes engine program option.Source = has_source program
 run_takes engine program option.Tolerance = has_tolerance program
-run_takes engine program option.Cache = has_rounds engine && has_cache program
+run_takes engine program option.Cache = has_cache program
 
 -- where an option may stand behind `check`: where it may behind the run, but gathers aren't kept
 abbrev pub check_takes : EngineName → ProgramWord → OptionName → Bool
@@ -68,6 +69,7 @@ no_choices = record {
   rounds = None;
   fuel = None;
   serial = false;
+  virtual_seed = None;
   source = None;
   tolerance = None;
   cache = false;
@@ -82,9 +84,29 @@ stands c option.Seed = is_some c.seed
 stands c option.Rounds = is_some c.rounds
 stands c option.Fuel = is_some c.fuel
 stands c option.Serial = c.serial
+stands c option.Virtual = is_some c.virtual_seed
 stands c option.Source = is_some c.source
 stands c option.Tolerance = is_some c.tolerance
 stands c option.Cache = c.cache
+
+-- two options that never stand together: the serial machine has no seed, and keeps no gathers
+abbrev pub excludes : OptionName → OptionName → Bool
+excludes option.Serial option.Virtual = true
+excludes option.Serial option.Cache = true
+excludes option.Virtual option.Serial = true
+excludes option.Cache option.Serial = true
+excludes _ _ = false
+
+-- whether one stands together with which the option never stands
+abbrev pub is_excluded : Choices → OptionName → Bool
+is_excluded c option.Serial = is_some c.virtual_seed || c.cache
+is_excluded c option.Virtual = c.serial
+is_excluded c option.Cache = c.serial
+is_excluded c _ = false
+
+-- an option may be added that doesn't stand yet and isn't excluded
+abbrev pub admits : Choices → OptionName → Bool
+admits c option = not (stands c option) && not (is_excluded c option)
 
 -- the choices with an option more that stands alone, or None where a value is to follow it
 abbrev pub with_flag : Choices → OptionName → Option Choices
@@ -112,16 +134,23 @@ with_value c option.Rounds word =
 with_value c option.Fuel word =
     option_map (λ x. record c { fuel = Some x }) (number_of (2 ^ 32 - 1) word)
 with_value c option.Serial word = None
+with_value c option.Virtual word =
+    option_map (λ x. record c { virtual_seed = Some x }) (number_of (2 ^ 64 - 1) word)
 with_value c option.Source word =
     option_map (λ x. record c { source = Some x }) (number_of (2 ^ 32 - 1) word)
 with_value c option.Tolerance word =
     option_map (λ x. record c { tolerance = Some x }) (number_of (2 ^ 64 - 1) word)
 with_value c option.Cache word = None
 
+-- executions one after another, so many at most: by a seed where it has one, or by the serial machine
+abbrev pub executing : ℕ → Option ℕ → Engine
+executing fuel None = engine.Serial fuel
+executing fuel (Some seed) = engine.Virtual fuel seed
+
 -- the engine with its limit
 abbrev pub engine_of : EngineName → Choices → Engine
 engine_of Sync c = engine.Sync (unwrap_or c.rounds 1000000)
-engine_of Async c = engine.Serial (unwrap_or c.fuel 1000000000)
+engine_of Async c = executing (unwrap_or c.fuel 1000000000) c.virtual_seed
 
 -- the cut with this seed, where it has one
 abbrev pub kind_of : CutWord → ℕ → CutKind
@@ -133,10 +162,10 @@ kind_of cut.Coordinated seed = kind.Coordinated
 abbrev pub cut_of : Choices → CutKind
 cut_of c = kind_of (unwrap_or c.cut cut.Random) (unwrap_or c.seed 0)
 
--- whether the engine can run: `--serial` is the one way in which `async` does
+-- whether the engine can run: `async` does by `--serial` or `--virtual`
 abbrev pub can_run : EngineName → Choices → Bool
 can_run Sync c = true
-can_run Async c = c.serial
+can_run Async c = c.serial || is_some c.virtual_seed
 
 -- the program with its number, or None where its source is missing
 abbrev pub program_of : ProgramWord → Choices → Option ProgramName

@@ -1,8 +1,8 @@
 -- Words read from left to right: what stands tells which word may follow.
-use Rattle.std.specs.Prelude.{◌≡◌, ◌↔◌, List, [], ◌∷◌, Bool, ◌&&◌, not, Option, Some, None, option_and_then, if◌then◌else◌}
+use Rattle.std.specs.Prelude.{◌≡◌, ◌↔◌, List, [], ◌∷◌, Bool, ◌&&◌, Option, Some, None, option_and_then, if◌then◌else◌}
 use Rattle.std.specs.Option.{option_map}
 use Rattle.pg_words.specs.Names.{Word, named, engines, engine_word, first_words, first_word, programs, program_word, options, option_word}
-use Rattle.pg_words.specs.Options.{takes, no_choices, stands, with_flag, with_value, job_from}
+use Rattle.pg_words.specs.Options.{takes, no_choices, admits, with_flag, with_value, job_from}
 use Rattle.pg_words.specs.Jobs.{IsJob}
 use Rattle.pg_words.specs.declared.choices.Choices.{Choices}
 use Rattle.pg_words.specs.declared.head.Head.{Head}
@@ -48,9 +48,9 @@ abbrev pub behind_option : Head → Choices → OptionName → Option Choices �
 behind_option head c option None = reading.Value head c option
 behind_option head c option (Some more) = reading.Options head more
 
--- an option may follow where the head takes it and it doesn't stand yet
+-- an option may follow where the head takes it and those that stand admit it
 abbrev pub is_free : Head → Choices → OptionName → Bool
-is_free head c option = takes head option && not (stands c option)
+is_free head c option = takes head option && admits c option
 
 -- what stands with an option more
 abbrev pub with_option : Head → Choices → OptionName → Option Reading

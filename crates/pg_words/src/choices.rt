@@ -1,7 +1,7 @@
 //! What the options chose so far.
 ghost use Rattle.std.specs.Prelude.{◌≡◌, ◌^◌, ◌-◌};
 ghost use Rattle.pg_base.specs.Numbers.{number_of};
-ghost use Rattle.pg_words.specs.Options.{number_from};
+ghost use Rattle.pg_words.specs.Options.{executing, number_from};
 
 use crate::head::Head;
 use crate::job::{CutJob, CutKind, Engine, Job, ProgramName, RunJob};
@@ -20,13 +20,14 @@ pub struct Choices {
     pub rounds: Option<u32>,
     pub fuel: Option<u32>,
     pub serial: bool,
+    pub virtual_seed: Option<u64>,
     pub source: Option<u32>,
     pub tolerance: Option<u64>,
     pub cache: bool,
 }
 
 impl Choices {
-    ghost use Rattle.pg_words.specs.Options.{no_choices, stands, with_flag, with_value, engine_of, cut_of, can_run, program_of, run_job, cut_job, job_from};
+    ghost use Rattle.pg_words.specs.Options.{no_choices, stands, is_excluded, admits, with_flag, with_value, engine_of, cut_of, can_run, program_of, run_job, cut_job, job_from};
 
     /// No option stands.
     pub fn new() -> Choices
@@ -40,6 +41,7 @@ impl Choices {
             rounds: None,
             fuel: None,
             serial: false,
+            virtual_seed: None,
             source: None,
             tolerance: None,
             cache: false,
@@ -58,10 +60,29 @@ impl Choices {
             OptionName::Rounds => self.rounds.is_some(),
             OptionName::Fuel => self.fuel.is_some(),
             OptionName::Serial => self.serial,
+            OptionName::Virtual => self.virtual_seed.is_some(),
             OptionName::Source => self.source.is_some(),
             OptionName::Tolerance => self.tolerance.is_some(),
             OptionName::Cache => self.cache,
         }
+    }
+
+    /// Whether one stands together with which the option never stands.
+    fn excludes(&self, option: OptionName) -> bool
+        ensures { result ≡ is_excluded self.now option }
+    {
+        match option {
+            OptionName::Serial => self.virtual_seed.is_some() || self.cache,
+            OptionName::Virtual | OptionName::Cache => self.serial,
+            _ => false,
+        }
+    }
+
+    /// Whether the option may be added: it doesn't stand yet and isn't excluded.
+    pub fn admits(&self, option: OptionName) -> bool
+        ensures { result ≡ admits self.now option }
+    {
+        !self.has(option) && !self.excludes(option)
     }
 
     /// These choices and an option more that stands alone, unless a value is to follow it.
@@ -94,6 +115,10 @@ impl Choices {
             OptionName::Rounds => more.rounds = Some(read_u32(word)?),
             OptionName::Fuel => more.fuel = Some(read_u32(word)?),
             OptionName::Serial => return None,
+            OptionName::Virtual => more.virtual_seed = Some(read_number(
+                word.as_bytes(),
+                u64::MAX,
+            )?),
             OptionName::Source => more.source = Some(read_u32(word)?),
             OptionName::Tolerance => more.tolerance = Some(read_number(word.as_bytes(), u64::MAX)?),
             OptionName::Cache => return None,
@@ -109,9 +134,7 @@ impl Choices {
             EngineName::Sync => Engine::Sync {
                 rounds: self.rounds.unwrap_or(1_000_000),
             },
-            EngineName::Async => Engine::Serial {
-                fuel: self.fuel.unwrap_or(1_000_000_000),
-            },
+            EngineName::Async => executing(self.fuel.unwrap_or(1_000_000_000), self.virtual_seed),
         }
     }
 
@@ -128,13 +151,13 @@ impl Choices {
         }
     }
 
-    /// Whether the engine can run: `--serial` is the one way in which `async` does.
+    /// Whether the engine can run: `async` does by `--serial` or `--virtual`.
     fn can_run(&self, name: EngineName) -> bool
         ensures { result ≡ can_run name self.now }
     {
         match name {
             EngineName::Sync => true,
-            EngineName::Async => self.serial,
+            EngineName::Async => self.serial || self.virtual_seed.is_some(),
         }
     }
 
@@ -194,6 +217,16 @@ impl Choices {
             Head::Check(engine, program) => Some(Job::Check(self.run_job(engine, program)?)),
             Head::Cut => Some(Job::Cut(self.cut_job())),
         }
+    }
+}
+
+/// Executions one after another: by a seed where it has one, or by the serial machine.
+fn executing(fuel: u32, seed: Option<u64>) -> Engine
+    ensures { result ≡ executing fuel seed }
+{
+    match seed {
+        None => Engine::Serial { fuel },
+        Some(seed) => Engine::Virtual { fuel, seed },
     }
 }
 

@@ -40,9 +40,10 @@ fn run_takes(engine: EngineName, program: ProgramWord, option: OptionName) -> bo
         OptionName::Rounds => engine.has_rounds(),
         OptionName::Fuel => engine.has_fuel(),
         OptionName::Serial => engine.has_fuel(),
+        OptionName::Virtual => engine.has_fuel(),
         OptionName::Source => program.has_source(),
         OptionName::Tolerance => program.has_tolerance(),
-        OptionName::Cache => engine.has_rounds() && program.has_cache(),
+        OptionName::Cache => program.has_cache(),
     }
 }
 

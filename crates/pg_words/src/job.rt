@@ -11,6 +11,9 @@ pub enum Engine {
     Sync { rounds: u32 },
     /// One vertex after another on one thread, so many executions at most.
     Serial { fuel: u32 },
+    /// Actors beside each other, whose acts come in an order that is drawn from the seed; so many
+    /// executions at most.
+    Virtual { fuel: u32, seed: u64 },
 }
 
 /// A program with its number, where it has one.
@@ -57,7 +60,7 @@ pub enum CutKind {
 ///
 /// Where its report is checked, the engine says whose report it is, and with which limit.
 /// `workers` is 1 to 64. With `cache` the gathers of vertices are kept from one execution to the
-/// next, which rounds of a program do whose scatters tell how a gather changes.
+/// next, which rounds and actors of a program do whose scatters tell how a gather changes.
 #[derive(Clone, Copy, Debug, PartialEq, Eq)]
 pub struct RunJob {
     pub engine: Engine,

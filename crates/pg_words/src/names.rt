@@ -159,6 +159,7 @@ pub enum OptionName {
     Rounds,
     Fuel,
     Serial,
+    Virtual,
     Source,
     Tolerance,
     Cache,
@@ -183,6 +184,8 @@ impl OptionName {
             Some(OptionName::Fuel)
         } else if word == "--serial" {
             Some(OptionName::Serial)
+        } else if word == "--virtual" {
+            Some(OptionName::Virtual)
         } else if word == "--source" {
             Some(OptionName::Source)
         } else if word == "--tolerance" {

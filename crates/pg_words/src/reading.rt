@@ -83,11 +83,11 @@ impl Reading {
     }
 }
 
-/// Whether an option may follow: the head takes it, and it doesn't stand yet.
+/// Whether an option may follow: the head takes it, and those that stand admit it.
 fn is_free(head: Head, choices: Choices, option: OptionName) -> bool
     ensures { result ≡ is_free head choices option }
 {
-    head.takes(option) && !choices.has(option)
+    head.takes(option) && choices.admits(option)
 }
 
 /// The job that the words name, or the place where they go wrong.

@@ -1,6 +1,6 @@
 //! Tables of words: behind each arrow the job that the words name, or the word at which they go wrong.
 //!
-//! A run is told as its engine and limit, its program and number, its format, its workers and its cut; a cut as
+//! A run is told as its engine with its limit and seed, its program and number, its format, its workers and its cut; a cut as
 //! the last three.
 
 use crate::{CutJob, CutKind, Engine, Job, ProgramName, RunJob, read_words};
@@ -22,6 +22,7 @@ fn engine_told(alloc: Global, engine: Engine) -> Result<String, AllocError> {
     match engine {
         Engine::Sync { rounds } => format!(in alloc; "sync {rounds}"),
         Engine::Serial { fuel } => format!(in alloc; "serial {fuel}"),
+        Engine::Virtual { fuel, seed } => format!(in alloc; "virtual {fuel} {seed}"),
     }
 }
 
@@ -115,7 +116,12 @@ async components --serial => run serial 1000000000 components snap 1 random 0
 async colour --serial => run serial 1000000000 colour snap 1 random 0
 async sssp --serial --source 0 => run serial 1000000000 sssp 0 snap 1 random 0
 async rank --serial => run serial 1000000000 rank 0 snap 1 random 0
-async tree --source 7 --serial => run serial 1000000000 tree 7 snap 1 random 0";
+async tree --source 7 --serial => run serial 1000000000 tree 7 snap 1 random 0
+async components --virtual 0 => run virtual 1000000000 0 components snap 1 random 0
+async colour --virtual 18446744073709551615 => run virtual 1000000000 18446744073709551615 colour snap 1 random 0
+async sssp --virtual 7 --source 0 => run virtual 1000000000 7 sssp 0 snap 1 random 0
+async rank --virtual 7 => run virtual 1000000000 7 rank 0 snap 1 random 0
+async tree --source 7 --virtual 8 => run virtual 1000000000 8 tree 7 snap 1 random 0";
 
 #[test]
 fn words_name_their_run(rt: HostRuntime) -> Result<(), Fail> {
@@ -135,7 +141,9 @@ check async sssp --source 0 => check serial 1000000000 sssp 0 snap 1 random 0
 check async rank --serial --tolerance 0 => check serial 1000000000 rank 0 snap 1 random 0
 check async tree --source 7 => check serial 1000000000 tree 7 snap 1 random 0
 check async components --format tsv --fuel 4294967295 => check serial 4294967295 components tsv 1 random 0
-check async components --serial --fuel 0 => check serial 0 components snap 1 random 0";
+check async components --serial --fuel 0 => check serial 0 components snap 1 random 0
+check async components --virtual 7 => check virtual 1000000000 7 components snap 1 random 0
+check async tree --fuel 3 --virtual 7 --source 1 => check virtual 3 7 tree 1 snap 1 random 0";
 
 #[test]
 fn words_name_the_run_whose_report_is_checked(rt: HostRuntime) -> Result<(), Fail> {
@@ -161,6 +169,10 @@ check async sssp => word 4
 check async sssp --serial => word 5
 check sync components --serial => word 4
 check sync components --fuel 1 => word 4
+check sync components --virtual 1 => word 4
+check async components --serial --virtual 1 => word 5
+check async components --virtual 1 --serial => word 6
+check async components --virtual 1 --cache => word 6
 check sync colour --source 1 => word 4
 check async components --rounds 1 => word 4
 check async components --serial 1 => word 5
@@ -183,6 +195,8 @@ sync colour --rounds 4294967295 => run sync 4294967295 colour snap 1 random 0
 sync colour --rounds 000000000000000000000000000042 => run sync 42 colour snap 1 random 0
 async components --fuel 0 --serial => run serial 0 components snap 1 random 0
 async components --serial --fuel 4294967295 => run serial 4294967295 components snap 1 random 0
+async components --virtual 007 --fuel 5 => run virtual 5 7 components snap 1 random 0
+async components --fuel 5 --virtual 7 => run virtual 5 7 components snap 1 random 0
 sync sssp --source 4294967295 --rounds 3 --format adj => run sync 3 sssp 4294967295 adj 1 random 0
 sync sssp --format adj --rounds 3 --source 4294967295 => run sync 3 sssp 4294967295 adj 1 random 0
 sync rank --tolerance 18446744073709551615 => run sync 1000000 rank 18446744073709551615 snap 1 random 0
@@ -203,6 +217,7 @@ sync sssp --seed 18446744073709551615 --source 4 --workers 3 => run sync 1000000
 async components --serial --workers 3 --cut random --seed 7 => run serial 1000000000 components snap 3 random 7
 sync components --cut oblivious => run sync 1000000 components snap 1 oblivious
 async components --cut coordinated --seed 7 --serial => run serial 1000000000 components snap 1 coordinated
+async components --virtual 3 --workers 3 --seed 7 => run virtual 1000000000 3 components snap 3 random 7
 check sync components --workers 3 => check sync 1000000 components snap 3 random 0
 check async components --seed 007 --workers 3 => check serial 1000000000 components snap 3 random 7";
 
@@ -216,9 +231,17 @@ sync components --cache => run sync 1000000 components snap 1 random 0 cache
 sync sssp --cache --source 4 => run sync 1000000 sssp 4 snap 1 random 0 cache
 sync rank --tolerance 7 --cache => run sync 1000000 rank 7 snap 1 random 0 cache
 sync tree --source 7 --cache --workers 2 => run sync 1000000 tree 7 snap 2 random 0 cache
+async components --virtual 3 --cache => run virtual 1000000000 3 components snap 1 random 0 cache
+async sssp --cache --source 4 --virtual 3 => run virtual 1000000000 3 sssp 4 snap 1 random 0 cache
+async rank --cache --virtual 3 => run virtual 1000000000 3 rank 0 snap 1 random 0 cache
+async tree --source 7 --virtual 3 --cache => run virtual 1000000000 3 tree 7 snap 1 random 0 cache
 sync colour --cache => word 3
-async components --cache => word 3
+async colour --cache => word 3
+async colour --virtual 3 --cache => word 5
+async components --cache => word 4
 async components --serial --cache => word 4
+async components --cache --serial => word 4
+async components --cache --virtual 3 --serial => word 6
 check sync components --cache => word 4
 check async components --cache => word 4
 cut --cache => word 2
@@ -227,7 +250,7 @@ sync components --cache 1 => word 4
 sync sssp --cache => word 4";
 
 #[test]
-fn gathers_are_kept_by_rounds_of_all_programs_but_colour(rt: HostRuntime) -> Result<(), Fail> {
+fn gathers_are_kept_in_runs_of_all_programs_but_colour(rt: HostRuntime) -> Result<(), Fail> {
     agrees(&rt, rt.alloc(), CACHES)
 }
 
@@ -250,6 +273,7 @@ cut sync components => word 2
 cut --rounds 3 => word 2
 cut --fuel 3 => word 2
 cut --serial => word 2
+cut --virtual 1 => word 2
 cut --source 1 => word 2
 cut --tolerance 1 => word 2
 sync cut => word 2
@@ -309,6 +333,9 @@ const WRONG_VALUES: &str = concat!(
     "sync components --rounds  => word 4\n",
     "async components --fuel 4294967296 --serial => word 4\n",
     "async components --fuel --serial => word 4\n",
+    "async components --virtual => word 4\n",
+    "async components --virtual --serial => word 4\n",
+    "async components --virtual 18446744073709551616 => word 4\n",
     "sync rank --tolerance 18446744073709551616 => word 4\n",
     "sync sssp --source => word 4\n",
     "sync sssp --source 4294967296 => word 4\n",
@@ -339,6 +366,10 @@ sync components --fuel 1 => word 3
 async components --rounds 1 --serial => word 3
 async components --serial 1 => word 4
 async components --serial --serial => word 4
+sync components --virtual 1 => word 3
+async components --serial --virtual 1 => word 4
+async components --virtual 1 --serial => word 5
+async components --virtual 1 --virtual 1 => word 5
 async components --fuel 1 --serial --fuel 1 => word 6
 sync sssp --source 1 --tolerance 1 => word 5
 sync sssp --source 1 --source 1 => word 5
