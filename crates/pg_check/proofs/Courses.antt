@@ -18,12 +18,12 @@ use Rattle.pg_serial.specs.Journals.{gathers_over, gather_degree}
 use Rattle.pg_serial.specs.Serial.{entry_of}
 use Rattle.pg_serial.proofs.Journals.{replay_none}
 use Rattle.pg_words.specs.declared.job.Engine.{Engine}
-use Rattle.pg_words.specs.declared.job.Engine.TheVariants.{Sync, Serial}
+use Rattle.pg_words.specs.declared.job.Engine.TheVariants.{Sync, Serial, Virtual}
 use Rattle.pg_words.specs.declared.job.ProgramName.{ProgramName}
 use Rattle.pg_check.specs.Reports.{ReadLine, tail_lines}
 use Rattle.pg_check.specs.Verdicts.{Judge, ends, expects, journal_in, replays}
 use Rattle.pg_check.specs.Course.{last_of, last_with, values_from, lines_from, IsTailPlace, IsTally, tail_from, full, with_entry, with_line, stands}
-use Rattle.pg_check.specs.Course.{replays_from, behind_counts, expects_from, gathers_from, gathers_made, IsEntry, IsWrongEntry, GoesOn, IsRejected, IsTaken}
+use Rattle.pg_check.specs.Course.{replays_from, behind_counts, expects_from, gathers_behind, gathers_from, gathers_made, IsEntry, IsWrongEntry, GoesOn, IsRejected, IsTaken}
 use Rattle.pg_check.specs.declared.course.Course.{Course}
 use Rattle.pg_check.specs.declared.place.Place.{Place}
 use Rattle.pg_check.specs.declared.place.Place.TheVariants.{Counts, Journal}
@@ -177,25 +177,43 @@ module _ {Acc Carry : Type 0} (p : Program Acc Carry) (name : ProgramName) (g : 
     steps = ap (λ (at : Place). 0 + gathers_made p name g (Sync limit) old at) place;
   }
 
-  serial_gathers : (old : Course) (fuel : ℕ) (line : Option ReadLine) (lines : List ReadLine) → IsSome line
-      → gathers_from p name g (Serial fuel) old Counts (with_line line lines) ≡ gathers_from p name g (Serial fuel) old (Journal (full fuel)) lines
-  serial_gathers old fuel None lines there = absurd (false≢true there)
-  serial_gathers old fuel (Some line) lines there = sym (zero-add (gathers_over p g (journal_in p name g old.state fuel lines)))
+  -- an engine that executes a journal with this fuel
+  record Executes (engine : Engine) (fuel : ℕ) (c : Course) : Type 0 where
+    pub judge : behind_counts p name g engine c ≡ replays_from p name g c.state (full fuel)
+    pub gathers : (lines : List ReadLine) → gathers_behind p name g engine c lines ≡ gathers_over p g (journal_in p name g c.state fuel lines)
+    pub made : gathers_made p name g engine c Counts ≡ 0
 
-  pub serial_counts : (old : Course) (fuel number : ℕ) (line : Option ReadLine) → IsFit p g old.state → old.place ≡ Counts
+  journal_gathers : (engine : Engine) (old : Course) (fuel : ℕ) (line : Option ReadLine) (lines : List ReadLine) → Executes engine fuel old → IsSome line
+      → gathers_from p name g engine old Counts (with_line line lines) ≡ gathers_from p name g engine old (Journal (full fuel)) lines
+  journal_gathers engine old fuel None lines executes there = absurd (false≢true there)
+  journal_gathers engine old fuel (Some line) lines executes there =
+      executes.gathers lines ∙ sym (zero-add (gathers_over p g (journal_in p name g old.state fuel lines)))
+
+  journal_counts : (engine : Engine) (old : Course) (fuel number : ℕ) (line : Option ReadLine) → Executes engine fuel old → IsFit p g old.state → old.place ≡ Counts
       → stands (line_text (counts_line g)) line ≡ true → IsTally (full fuel)
-      → GoesOn p name g (Serial fuel) old (record { place = Journal (full fuel); state = old.state; last = old.last }) 0 0 line number
-  serial_counts old fuel number line fit place is tally =
+      → GoesOn p name g engine old (record { place = Journal (full fuel); state = old.state; last = old.last }) 0 0 line number
+  journal_counts engine old fuel number line executes fit place is tally =
       let there = stood (line_text (counts_line g)) line is in
       record {
         there = there;
         course = record { fit = fit; place = tally };
-        verdict = λ lines. (ap (λ (at : Place). expects_from p name g (Serial fuel) old at number (with_line line lines)) place
-            ∙ stand_on (counts_line g) [] (behind_counts p name g (Serial fuel) old) number line lines is);
-        gathers = λ lines. (ap (λ (at : Place). gathers_from p name g (Serial fuel) old at (with_line line lines)) place
-            ∙ serial_gathers old fuel line lines there);
-        steps = ap (λ (at : Place). 0 + gathers_made p name g (Serial fuel) old at) place;
+        verdict = λ lines. (ap (λ (at : Place). expects_from p name g engine old at number (with_line line lines)) place
+            ∙ (stand_on (counts_line g) [] (behind_counts p name g engine old) number line lines is
+            ∙ ap (λ (judge : Judge). judge (number + 1) lines) executes.judge));
+        gathers = λ lines. (ap (λ (at : Place). gathers_from p name g engine old at (with_line line lines)) place
+            ∙ journal_gathers engine old fuel line lines executes there);
+        steps = ap (λ (at : Place). 0 + gathers_made p name g engine old at) place ∙ ap (λ (n : ℕ). 0 + n) executes.made;
       }
+
+  pub serial_counts : (old : Course) (fuel number : ℕ) (line : Option ReadLine) → IsFit p g old.state → old.place ≡ Counts
+      → stands (line_text (counts_line g)) line ≡ true → IsTally (full fuel)
+      → GoesOn p name g (Serial fuel) old (record { place = Journal (full fuel); state = old.state; last = old.last }) 0 0 line number
+  serial_counts old fuel number line = journal_counts (Serial fuel) old fuel number line (record { judge = refl; gathers = λ _. refl; made = refl })
+
+  pub virtual_counts : (old : Course) (fuel seed number : ℕ) (line : Option ReadLine) → IsFit p g old.state → old.place ≡ Counts
+      → stands (line_text (counts_line g)) line ≡ true → IsTally (full fuel)
+      → GoesOn p name g (Virtual fuel seed) old (record { place = Journal (full fuel); state = old.state; last = old.last }) 0 0 line number
+  virtual_counts old fuel seed number line = journal_counts (Virtual fuel seed) old fuel number line (record { judge = refl; gathers = λ _. refl; made = refl })
 
   -- an entry was taken
   pub entry_taken : (engine : Engine) (old : Course) (new : Configuration) (tally more : Tally) (gathers number steps_old steps_new : ℕ) (line : Option ReadLine)

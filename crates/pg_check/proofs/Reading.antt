@@ -25,7 +25,7 @@ use Rattle.pg_report.specs.declared.line.ReportLine.{ReportLine}
 use Rattle.pg_report.specs.declared.line.ReportLine.TheVariants as line
 use Rattle.pg_serial.specs.Journals.{gathers_over}
 use Rattle.pg_words.specs.declared.job.Engine.{Engine}
-use Rattle.pg_words.specs.declared.job.Engine.TheVariants.{Sync, Serial}
+use Rattle.pg_words.specs.declared.job.Engine.TheVariants.{Sync, Serial, Virtual}
 use Rattle.pg_words.specs.declared.job.ProgramName.{ProgramName}
 use Rattle.pg_check.specs.Outcomes.{engine_name}
 use Rattle.pg_check.specs.Reports.{ReadLine, read_line, read_report, has_text, tail_lines}
@@ -121,6 +121,7 @@ module _ {Acc Carry : Type 0} (p : Program Acc Carry) (name : ProgramName) (g : 
       behind : (engine : Engine) (number : ℕ) (lines : List ReadLine) → IsFrom number (behind_counts p name g engine c number lines)
       behind (Sync limit) number lines = expects_later (tail_lines name g c.state c.last) ends ends_from number lines
       behind (Serial fuel) number lines = replays_later c.state (full fuel) number lines
+      behind (Virtual fuel seed) number lines = replays_later c.state (full fuel) number lines
   course_later engine c (Journal tally) number lines = replays_later c.state tally number lines
   course_later engine c (Tail at) number lines = expects_later (lines_from name g c.state c.last at) ends ends_from number lines
 

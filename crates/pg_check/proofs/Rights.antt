@@ -14,7 +14,7 @@ use Rattle.pg_report.specs.Lines.{line_text}
 use Rattle.pg_report.specs.declared.line.ReportLine.{ReportLine}
 use Rattle.pg_words.specs.Programs.{is_wide}
 use Rattle.pg_words.specs.declared.job.Engine.{Engine}
-use Rattle.pg_words.specs.declared.job.Engine.TheVariants.{Sync, Serial}
+use Rattle.pg_words.specs.declared.job.Engine.TheVariants.{Sync, Serial, Virtual}
 use Rattle.pg_words.specs.declared.job.ProgramName.{ProgramName}
 use Rattle.pg_check.specs.Outcomes.{Outcome, after_rounds, after_journal, engine_name}
 use Rattle.pg_check.specs.Reports.{ReadLine, read_line, has_text, entry_row, head_lines, tail_lines}
@@ -135,6 +135,9 @@ module _ {Acc Carry : Type 0} (p : Program Acc Carry) (name : ProgramName) (g : 
   behind_right graph (Serial fuel) number outcome left =
       ap (λ (o : Outcome). judges p name g (Serial fuel) number (rows p name g o.journal ++ map ended_line (tail_of o))) left.outcome_is
       ∙ replayed_right graph fuel number left.journal left.legal left.fits
+  behind_right graph (Virtual fuel seed) number outcome left =
+      ap (λ (o : Outcome). judges p name g (Virtual fuel seed) number (rows p name g o.journal ++ map ended_line (tail_of o))) left.outcome_is
+      ∙ replayed_right graph fuel number left.journal left.legal left.fits
 
   lines_right : (graph : IsMultigraph g) (engine : Engine) (outcome : Outcome) → IsOutcome p g engine outcome
       → verdict_by p name g engine (map ended_line (report_lines name engine g outcome)) ≡ Confirmed
@@ -156,11 +159,9 @@ module _ {Acc Carry : Type 0} (p : Program Acc Carry) (name : ProgramName) (g : 
       all.split ∙ (ap (λ (rest : List ReadLine). map ended_line expected ++ rest) (ended_all (number + length expected) all.rest all.confirmed)
       ∙ append-nil (map ended_line expected))
 
-  behind_left : (engine : Engine) (number : ℕ) (lines : List ReadLine) → judges p name g engine number lines ≡ Confirmed → Left engine lines
-  behind_left (Sync limit) number lines confirmed =
-      let run = after_rounds g (rounds p g start limit) in
-      record { outcome = run; left = refl; lines_are = tail_alone (tail_of run) number lines confirmed }
-  behind_left (Serial fuel) number lines confirmed =
+  -- of executions, a legal journal that fits the fuel
+  replayed_left : (fuel number : ℕ) (lines : List ReadLine) → judges p name g (Serial fuel) number lines ≡ Confirmed → Left (Serial fuel) lines
+  replayed_left fuel number lines confirmed =
       let journal = journal_in p name g start fuel lines in
       let outcome = after_journal p g journal in
       let all = takes p name g start fuel lines in
@@ -182,6 +183,15 @@ module _ {Acc Carry : Type 0} (p : Program Acc Carry) (name : ProgramName) (g : 
           → IsTrue (is_quiet g (replay p g start (journal_in p name g start fuel lines))) ⊎ (length (journal_in p name g start fuel lines) ≡ fuel)
       over (inl quiet) = inl quiet
       over (inr full) = inr (eqb-true (length (journal_in p name g start fuel lines)) fuel full)
+
+  behind_left : (engine : Engine) (number : ℕ) (lines : List ReadLine) → judges p name g engine number lines ≡ Confirmed → Left engine lines
+  behind_left (Sync limit) number lines confirmed =
+      let run = after_rounds g (rounds p g start limit) in
+      record { outcome = run; left = refl; lines_are = tail_alone (tail_of run) number lines confirmed }
+  behind_left (Serial fuel) number lines confirmed = replayed_left fuel number lines confirmed
+  behind_left (Virtual fuel seed) number lines confirmed =
+      let replayed = replayed_left fuel number lines confirmed in
+      record { outcome = replayed.outcome; left = replayed.left; lines_are = replayed.lines_are }
 
   text_left : (engine : Engine) (text : List ℕ) → verdict_by p name g engine (map read_line (lines text)) ≡ Confirmed → IsRightText p name g engine text
   text_left engine text confirmed =

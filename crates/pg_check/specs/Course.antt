@@ -15,7 +15,7 @@ use Rattle.pg_serial.specs.Journals.{gathers_over, gather_degree}
 use Rattle.pg_serial.specs.Serial.{entry_of}
 use Rattle.pg_words.specs.Programs.{is_wide}
 use Rattle.pg_words.specs.declared.job.Engine.{Engine}
-use Rattle.pg_words.specs.declared.job.Engine.TheVariants.{Sync, Serial}
+use Rattle.pg_words.specs.declared.job.Engine.TheVariants.{Sync, Serial, Virtual}
 use Rattle.pg_words.specs.declared.job.ProgramName.{ProgramName}
 use Rattle.pg_check.specs.Reports.{ReadLine, has_text, value_lines, message_lines, tail_lines}
 use Rattle.pg_check.specs.Verdicts.{Judge, ends, expects, journal_in}
@@ -119,6 +119,7 @@ module _ {Acc Carry : Type 0} (p : Program Acc Carry) (name : ProgramName) (g : 
   abbrev pub behind_counts : Engine → Course → Judge
   behind_counts (Sync limit) c = expects (tail_lines name g c.state c.last) ends
   behind_counts (Serial fuel) c = replays_from c.state (full fuel)
+  behind_counts (Virtual fuel seed) c = replays_from c.state (full fuel)
 
   -- what is expected from a place on
   abbrev pub expects_from : Engine → Course → Place → Judge
@@ -130,6 +131,8 @@ module _ {Acc Carry : Type 0} (p : Program Acc Carry) (name : ProgramName) (g : 
   abbrev pub gathers_behind : Engine → Course → List ReadLine → ℕ
   gathers_behind (Sync limit) c lines = c.last.gathers
   gathers_behind (Serial fuel) c lines = gathers_over p g (journal_in p name g c.state fuel lines)
+  gathers_behind (Virtual fuel seed) c lines =
+      gathers_over p g (journal_in p name g c.state fuel lines)
 
   abbrev pub gathers_from : Engine → Course → Place → List ReadLine → ℕ
   gathers_from engine c Counts lines = gathers_behind engine c (drop 1 lines)
@@ -141,6 +144,7 @@ module _ {Acc Carry : Type 0} (p : Program Acc Carry) (name : ProgramName) (g : 
   abbrev pub gathers_made : Engine → Course → Place → ℕ
   gathers_made (Sync limit) c Counts = c.last.gathers
   gathers_made (Serial fuel) c Counts = 0
+  gathers_made (Virtual fuel seed) c Counts = 0
   gathers_made engine c (Journal tally) = tally.gathers
   gathers_made engine c (Tail at) = c.last.gathers
 

@@ -1,9 +1,9 @@
 -- What a run of a program leaves, and the text that reports it.
-use Rattle.std.specs.Prelude.{ℕ, List, [], length, Some, None}
+use Rattle.std.specs.Prelude.{◌≡◌, ℕ, List, [], length, Some, None}
 use Rattle.pg_graph.specs.Multigraph.{Multigraph}
 use Rattle.pg_law.specs.declared.values.JournalEntry.{JournalEntry}
 use Rattle.pg_law.specs.Configuration.{Configuration, start_state}
-use Rattle.pg_law.specs.Journal.{replay}
+use Rattle.pg_law.specs.Journal.{replay, IsLegal, FitsFuel}
 use Rattle.pg_law.specs.Program.{Program}
 use Rattle.pg_law.specs.Rounds.{Run, rounds, end_of}
 use Rattle.pg_colour.specs.Colouring.{colouring}
@@ -14,7 +14,7 @@ use Rattle.pg_rank.specs.PageRank.{page_rank}
 use Rattle.pg_serial.specs.Journals.{gathers_over}
 use Rattle.pg_serial.specs.Serial.{serial_journal, IsSerialJournal}
 use Rattle.pg_words.specs.declared.job.Engine.{Engine}
-use Rattle.pg_words.specs.declared.job.Engine.TheVariants.{Sync, Serial}
+use Rattle.pg_words.specs.declared.job.Engine.TheVariants.{Sync, Serial, Virtual}
 use Rattle.pg_words.specs.declared.job.ProgramName.{ProgramName}
 use Rattle.pg_words.specs.declared.job.ProgramName.TheVariants.{Components, Colour, Sssp, Rank, Tree}
 use Rattle.pg_words.specs.declared.names.EngineName.{EngineName}
@@ -60,40 +60,50 @@ module _ {Acc Carry : Type 0} (p : Program Acc Carry) (g : Multigraph) where
   abbrev pub journal_of : ℕ → List JournalEntry
   journal_of fuel = serial_journal p g (start_state p g) fuel
 
-  -- what a run of the program from its start leaves: bulk-synchronous rounds, or one execution after
-  -- another, each of the signalled vertex of least number
-  abbrev pub outcome_by : Engine → Outcome
-  outcome_by (Sync limit) = after_rounds g (rounds p g (start_state p g) limit)
-  outcome_by (Serial fuel) = after_journal (journal_of fuel)
+  -- what a run of the program from its start leaves: bulk-synchronous rounds, or the executions of a
+  -- journal, one after another
+  abbrev pub outcome_by : Engine → List JournalEntry → Outcome
+  outcome_by (Sync limit) journal = after_rounds g (rounds p g (start_state p g) limit)
+  outcome_by (Serial fuel) journal = after_journal journal
+  outcome_by (Virtual fuel seed) journal = after_journal journal
 
-  -- a serial run has a legal journal, which fits the fuel
-  abbrev pub HasJournal : Engine → Type 0
-  HasJournal (Sync limit) = Unit {0}
-  HasJournal (Serial fuel) = IsSerialJournal p g (start_state p g) fuel (journal_of fuel)
+  -- the journal of the serial machine: each entry is of the signalled vertex of least number
+  pub record IsSerial (fuel : ℕ) (journal : List JournalEntry) : Type 0 where
+    pub is : journal ≡ journal_of fuel
+    pub serial : IsSerialJournal p g (start_state p g) fuel journal
+
+  -- a journal that is legal from the start and fits the fuel
+  pub record IsAny (fuel : ℕ) (journal : List JournalEntry) : Type 0 where
+    pub legal : IsLegal p g (start_state p g) journal
+    pub fits : FitsFuel p g (start_state p g) journal fuel
+
+  -- the journal of a run: rounds have none, the serial machine has its own, and actors have any legal one
+  abbrev pub HasJournal : Engine → List JournalEntry → Type 0
+  HasJournal (Sync limit) journal = journal ≡ []
+  HasJournal (Serial fuel) journal = IsSerial fuel journal
+  HasJournal (Virtual fuel seed) journal = IsAny fuel journal
 
 -- the same of the program with this name
-abbrev pub outcome_of : ProgramName → Engine → Multigraph → Outcome
-outcome_of Components engine g = outcome_by components g engine
-outcome_of Colour engine g = outcome_by colouring g engine
-outcome_of (Sssp source) engine g = outcome_by (shortest_paths source) g engine
-outcome_of (Rank tolerance) engine g = outcome_by (page_rank tolerance) g engine
-outcome_of (Tree source) engine g = outcome_by (tree source) g engine
+abbrev pub outcome_of : ProgramName → Engine → Multigraph → List JournalEntry → Outcome
+outcome_of Components engine g journal = outcome_by components g engine journal
+outcome_of Colour engine g journal = outcome_by colouring g engine journal
+outcome_of (Sssp source) engine g journal = outcome_by (shortest_paths source) g engine journal
+outcome_of (Rank tolerance) engine g journal = outcome_by (page_rank tolerance) g engine journal
+outcome_of (Tree source) engine g journal = outcome_by (tree source) g engine journal
 
-abbrev pub HasJournalOf : ProgramName → Engine → Multigraph → Type 0
-HasJournalOf Components engine g = HasJournal components g engine
-HasJournalOf Colour engine g = HasJournal colouring g engine
-HasJournalOf (Sssp source) engine g = HasJournal (shortest_paths source) g engine
-HasJournalOf (Rank tolerance) engine g = HasJournal (page_rank tolerance) g engine
-HasJournalOf (Tree source) engine g = HasJournal (tree source) g engine
+abbrev pub HasJournalOf : ProgramName → Engine → Multigraph → List JournalEntry → Type 0
+HasJournalOf Components engine g journal = HasJournal components g engine journal
+HasJournalOf Colour engine g journal = HasJournal colouring g engine journal
+HasJournalOf (Sssp source) engine g journal = HasJournal (shortest_paths source) g engine journal
+HasJournalOf (Rank tolerance) engine g journal = HasJournal (page_rank tolerance) g engine journal
+HasJournalOf (Tree source) engine g journal = HasJournal (tree source) g engine journal
 
 -- the report of what a run left
 abbrev pub engine_name : Engine → EngineName
 engine_name (Sync limit) = named.Sync
 engine_name (Serial fuel) = named.Async
+engine_name (Virtual fuel seed) = named.Async
 
 abbrev pub text_of : ProgramName → Engine → Multigraph → Outcome → List ℕ
 text_of program engine g outcome =
     report_text (engine_name engine) program g outcome.journal outcome.state outcome.last
-
-abbrev pub named_text : ProgramName → Engine → Multigraph → List ℕ
-named_text name engine g = text_of name engine g (outcome_of name engine g)

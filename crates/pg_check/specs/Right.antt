@@ -12,7 +12,7 @@ use Rattle.pg_report.specs.Lines.{IsLine}
 use Rattle.pg_report.specs.declared.line.ReportLine.{ReportLine}
 use Rattle.pg_words.specs.Programs.{is_wide}
 use Rattle.pg_words.specs.declared.job.Engine.{Engine}
-use Rattle.pg_words.specs.declared.job.Engine.TheVariants.{Sync, Serial}
+use Rattle.pg_words.specs.declared.job.Engine.TheVariants.{Sync, Serial, Virtual}
 use Rattle.pg_words.specs.declared.job.ProgramName.{ProgramName}
 use Rattle.pg_check.specs.Outcomes.{Outcome, after_rounds, after_journal, engine_name, text_of}
 use Rattle.pg_check.specs.Reports.{read_line, entry_row, head_lines, tail_lines}
@@ -41,6 +41,7 @@ module _ {Acc Carry : Type 0} (p : Program Acc Carry) (g : Multigraph) where
   IsOutcome (Sync limit) outcome =
       outcome ≡ after_rounds g (rounds p g (start_state p g) limit)
   IsOutcome (Serial fuel) outcome = IsReplayed fuel outcome
+  IsOutcome (Virtual fuel seed) outcome = IsReplayed fuel outcome
 
 module _ {Acc Carry : Type 0} (p : Program Acc Carry) (name : ProgramName) (g : Multigraph) where
   -- a text is the report of what a run may leave

@@ -23,7 +23,7 @@ use Rattle.pg_serial.specs.Journals.{gathers_over}
 use Rattle.pg_serial.specs.Serial.{entry_of, entries_from}
 use Rattle.pg_words.specs.Programs.{is_wide}
 use Rattle.pg_words.specs.declared.job.Engine.{Engine}
-use Rattle.pg_words.specs.declared.job.Engine.TheVariants.{Sync, Serial}
+use Rattle.pg_words.specs.declared.job.Engine.TheVariants.{Sync, Serial, Virtual}
 use Rattle.pg_words.specs.declared.job.ProgramName.{ProgramName}
 use Rattle.pg_words.specs.declared.job.ProgramName.TheVariants.{Components, Colour, Sssp, Rank, Tree}
 use Rattle.pg_words.specs.declared.job.RunJob.{RunJob}
@@ -87,6 +87,7 @@ module _ {Acc Carry : Type 0} (p : Program Acc Carry) (name : ProgramName) (g : 
       let outcome = after_rounds g (rounds p g (start_state p g) limit) in
       expects (tail_lines name g outcome.state outcome.last) ends
   judges (Serial fuel) = replays fuel
+  judges (Virtual fuel seed) = replays fuel
 
   -- what a check finds of a report
   abbrev pub verdict_by : Engine → List ReadLine → Verdict
@@ -97,6 +98,8 @@ module _ {Acc Carry : Type 0} (p : Program Acc Carry) (name : ProgramName) (g : 
   abbrev pub gathers_by : Engine → List ReadLine → ℕ
   gathers_by (Sync limit) lines = (rounds p g (start_state p g) limit).gathers
   gathers_by (Serial fuel) lines =
+      gathers_over p g (journal_in (start_state p g) fuel (drop 2 lines))
+  gathers_by (Virtual fuel seed) lines =
       gathers_over p g (journal_in (start_state p g) fuel (drop 2 lines))
 
 -- the same of the program with this name

@@ -32,7 +32,7 @@ fn is_head(line: RawLine<'_>, job: &RunJob) -> bool
 {
     let engine = match job.engine {
         Engine::Sync { .. } => EngineName::Sync,
-        Engine::Serial { .. } => EngineName::Async,
+        Engine::Serial { .. } | Engine::Virtual { .. } => EngineName::Async,
     };
     let program = job.program;
     is_line(line, ReportLine::Head { engine, program })

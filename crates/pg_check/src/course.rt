@@ -71,7 +71,7 @@ pub fn begin<P: VertexProgram, L: Ledger>(
                 },
             })
         }
-        Engine::Serial { .. } => Ok(Course {
+        Engine::Serial { .. } | Engine::Virtual { .. } => Ok(Course {
             place: Place::Counts,
             state,
             last: LastLine {
@@ -160,6 +160,9 @@ fn take_counts<P: VertexProgram>(
             at: value_from(graph, &course.state, 0),
         },
         Engine::Serial { fuel } => Place::Journal {
+            tally: Tally::full(fuel),
+        },
+        Engine::Virtual { fuel, .. } => Place::Journal {
             tally: Tally::full(fuel),
         },
     };

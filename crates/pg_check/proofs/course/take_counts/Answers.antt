@@ -4,10 +4,10 @@ use Rattle.pg_report.specs.Lines.{line_text}
 use Rattle.pg_report.specs.Report.{counts_line}
 use Rattle.pg_report.specs.declared.line.ReportLine.TheVariants as line
 use Rattle.pg_check.specs.Course.{stands, IsTally}
-use Rattle.pg_check.proofs.Courses.{sync_counts, serial_counts}
+use Rattle.pg_check.proofs.Courses.{sync_counts, serial_counts, virtual_counts}
 use Rattle.pg_check.proofs.course.take_counts.Given
 use Rattle.pg_check.proofs.course.take_counts.Goals as goal
-use Rattle.pg_check.proofs.course.take_counts.Goals.{in-Sync, in-Serial}
+use Rattle.pg_check.proofs.course.take_counts.Goals.{in-Sync, in-Serial, in-Virtual}
 
 -- the counts stand there
 counts_stand : (g : Given.Over) (c : goal.After-course-1 g) → stands (line_text (counts_line c.args.graph.now)) (shown c.args.line) ≡ true
@@ -31,4 +31,7 @@ returns g c =
       | in-Serial w ↦
           rw (w.in-Serial.is, w.course-is, w.full.ensures.value) (serial_counts p name c.args.graph.now c.args.course.now w.in-Serial.fuel c.args.number (shown c.args.line)
           c.requires.fit c.requires.place (counts_stand g c) (subst IsTally w.full.ensures.value w.full.ensures.tally))
+      | in-Virtual w ↦
+          rw (w.in-Virtual.is, w.course-is, w.full-in-Virtual.ensures.value) (virtual_counts p name c.args.graph.now c.args.course.now w.in-Virtual.fuel w.in-Virtual.seed c.args.number (shown c.args.line)
+          c.requires.fit c.requires.place (counts_stand g c) (subst IsTally w.full-in-Virtual.ensures.value w.full-in-Virtual.ensures.tally))
     ]
