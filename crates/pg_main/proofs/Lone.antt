@@ -22,7 +22,7 @@ with_none kept n o none = ap (λ (b : Bool). with_kept b n o) none
 
 -- kept gathers of a program that never clears are made once by each vertex that executes
 pub gathers_are : {Acc Carry : Type 0} (p : Program Acc Carry) (g : Multigraph) (limit : ℕ) (kept : Bool) → (IsTrue kept → NeverClears p) → GathersAreDistinct p
-    → gathers_of p g kept (start_state p g) limit ≡ cond kept (distinct_by p g (Sync limit)) (rounds p g (start_state p g) limit).gathers
+    → gathers_of p g kept (start_state p g) limit ≡ cond kept (distinct_by p g (Sync limit) []) (rounds p g (start_state p g) limit).gathers
 gathers_are p g limit true never law = (law (never refl) g (start_state p g) limit).once
 gathers_are p g limit false never law = refl
 
@@ -31,11 +31,11 @@ pub left_is : {Acc Carry : Type 0} (p : Program Acc Carry) (g : Multigraph) (lim
     → (s : Configuration) → s ≡ start_state p g → (state : Configuration) (end : End) (made executions gathers : ℕ)
     → state ≡ (rounds p g s limit).state → end ≡ end_of g (rounds p g s limit).state → made ≡ (rounds p g s limit).rounds
     → executions ≡ (rounds p g s limit).executions → gathers ≡ gathers_of p g kept s limit
-    → outcome_with [] state (record { end = end; rounds = Some made; executions = executions; gathers = gathers }) ≡ left_by p g (Sync limit) kept
+    → outcome_with [] state (record { end = end; rounds = Some made; executions = executions; gathers = gathers }) ≡ left_by p g (Sync limit) kept []
 left_is p g limit kept never law s start state end made executions gathers =
     let At : Configuration → Type 0 = λ t. state ≡ (rounds p g t limit).state → end ≡ end_of g (rounds p g t limit).state → made ≡ (rounds p g t limit).rounds
     → executions ≡ (rounds p g t limit).executions → gathers ≡ gathers_of p g kept t limit
-    → outcome_with [] state (record { end = end; rounds = Some made; executions = executions; gathers = gathers }) ≡ left_by p g (Sync limit) kept in
+    → outcome_with [] state (record { end = end; rounds = Some made; executions = executions; gathers = gathers }) ≡ left_by p g (Sync limit) kept [] in
     let begun : At (start_state p g) = λ of_state of_end of_made of_executions of_gathers.
     (let total = of_gathers ∙ gathers_are p g limit kept never law in
     rw (of_state, of_end, of_made, of_executions, total) refl) in

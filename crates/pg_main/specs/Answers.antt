@@ -15,11 +15,12 @@ use Rattle.pg_check.specs.declared.verdict.Verdict.{Verdict}
 use Rattle.pg_check.specs.declared.verdict.Verdict.TheVariants.{Confirmed}
 use Rattle.pg_words.specs.declared.job.RunJob.{RunJob}
 use Rattle.pg_law.specs.declared.values.End.{End}
+use Rattle.pg_law.specs.declared.values.JournalEntry.{JournalEntry}
 use Rattle.pg_law.specs.declared.async_end.AsyncError.{AsyncError}
 use Rattle.pg_law.specs.declared.async_end.AsyncError.TheVariants as async
 use Rattle.pg_words.specs.declared.job.Engine.{Engine}
 use Rattle.pg_words.specs.declared.job.ProgramName.{ProgramName}
-use Rattle.pg_main.specs.Counters.{ArePresent, FirstTakes, Take}
+use Rattle.pg_main.specs.Counters.{ArePresent, FirstTakes, Counted}
 use Rattle.pg_check.specs.Outcomes.{HasJournalOf}
 use Rattle.pg_main.specs.Ways.{left_of, kept_text}
 use Rattle.pg_main.specs.declared.refusal.Refusal.{Refusal}
@@ -37,16 +38,18 @@ abbrev pub refusal_of : AsyncError → Refusal
 refusal_of async.WriteFault = WriteFault
 refusal_of async.Memory = Memory
 
--- the report was appended and each counter took the gathers of its worker; or a front of it was appended
+-- the report of a journal was appended and each counter took the gathers of its worker; or a front of it was
+-- appended
 pub record Reports (name : ProgramName) (engine : Engine) (kept : Bool) (g : Multigraph) (gathers : ℕ → ℕ)
     (before after : Option (List ℕ)) (faults_before faults_after : ℕ)
     (steps_before steps_after : List (Option ℕ)) (result : Result End Refusal) : Type 0 where
-  pub end : IfOk result (λ end. (left_of name engine kept g).last.end ≡ end)
-  pub journal : OnOk result (HasJournalOf name engine g)
-  pub whole : OnOk result (after ≡ append_known before (kept_text name engine kept g))
-  pub counted : OnOk result (Take steps_before steps_after gathers)
+  pub journal : List JournalEntry
+  pub is_journal : HasJournalOf name engine g journal
+  pub end : IfOk result (λ end. (left_of name engine kept g journal).last.end ≡ end)
+  pub whole : OnOk result (after ≡ append_known before (kept_text name engine kept g journal))
+  pub counted : OnOk result (Counted engine steps_before steps_after gathers)
   pub late : IfErr result IsLate
-  pub front : OnErr result (SendsFront before after (kept_text name engine kept g))
+  pub front : OnErr result (SendsFront before after (kept_text name engine kept g journal))
   pub fault : IsErrOf result WriteFault → HasRisen faults_before faults_after
   pub later : faults_before ≤ faults_after
   pub present : ArePresent steps_after

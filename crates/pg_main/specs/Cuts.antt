@@ -18,7 +18,7 @@ use Rattle.pg_sync.specs.Counting.{gathers_by as gathers_over_cut}
 use Rattle.pg_words.specs.declared.job.CutKind.{CutKind}
 use Rattle.pg_words.specs.declared.job.CutKind.TheVariants.{Random, Oblivious, Coordinated}
 use Rattle.pg_words.specs.declared.job.Engine.{Engine}
-use Rattle.pg_words.specs.declared.job.Engine.TheVariants.{Sync, Serial}
+use Rattle.pg_words.specs.declared.job.Engine.TheVariants.{Sync, Serial, Virtual}
 use Rattle.pg_words.specs.declared.job.ProgramName.{ProgramName}
 use Rattle.pg_words.specs.declared.job.ProgramName.TheVariants as program
 use Rattle.pg_words.specs.declared.job.RunJob.{RunJob}
@@ -51,7 +51,8 @@ abbrev pub is_alone : Bool → ℕ → Bool
 is_alone kept workers = not kept && (workers == 1)
 
 -- how many gathers each worker makes in a run of the program. In rounds a worker that is alone makes all, and
--- else each makes those over its own edges; one execution after another is made by the first worker
+-- else each makes those over its own edges; one execution after another is made by the first worker. Of actors
+-- nothing is said here, but in `Counted`
 abbrev pub gathers_by : {Acc Carry : Type 0} → Program Acc Carry → Engine → Bool → Multigraph → Division
     → ℕ → ℕ
 gathers_by p (Sync limit) kept g cut worker =
@@ -59,6 +60,7 @@ gathers_by p (Sync limit) kept g cut worker =
     else by_workers cut (gathers_over_cut p g cut kept (start_state p g) limit) worker
 gathers_by p (Serial fuel) kept g cut worker =
     at_first (gathers_over p g (journal_of p g fuel)) worker
+gathers_by p (Virtual fuel seed) kept g cut worker = 0
 
 -- the same of the program with this name
 abbrev pub worker_gathers : ProgramName → Engine → Bool → Multigraph → Division → ℕ → ℕ

@@ -8,6 +8,7 @@ use Rattle.pg_base.specs.Writing.{SendsFront}
 use Rattle.pg_graph.specs.Multigraph.{Multigraph}
 use Rattle.pg_input.specs.Reading.{IsGraphOfText, first_event}
 use Rattle.pg_law.specs.declared.values.End.{End}
+use Rattle.pg_law.specs.declared.values.JournalEntry.{JournalEntry}
 use Rattle.pg_words.specs.Names.{Word}
 use Rattle.pg_words.specs.Reading.{job_of}
 use Rattle.pg_words.specs.declared.job.Job.{Job}
@@ -16,19 +17,23 @@ use Rattle.pg_words.specs.declared.job.ProgramName.{ProgramName}
 use Rattle.pg_words.specs.declared.job.ProgramName.TheVariants.{Components, Colour, Sssp, Rank, Tree}
 use Rattle.pg_words.specs.declared.job.CutJob.{CutJob}
 use Rattle.pg_words.specs.declared.job.RunJob.{RunJob}
-use Rattle.pg_main.specs.Counters.{Take}
+use Rattle.pg_main.specs.Counters.{Counted}
 use Rattle.pg_main.specs.Cuts.{job_gathers}
 use Rattle.pg_main.specs.CutTexts.{job_cut_text}
 use Rattle.pg_main.specs.Meanings.{Means}
 use Rattle.pg_check.specs.Outcomes.{Outcome, HasJournalOf}
 use Rattle.pg_main.specs.Ways.{left_of, kept_text, is_kept}
 
--- what a job leaves on a graph, and its report
-abbrev pub job_outcome : RunJob → Multigraph → Outcome
-job_outcome job g = left_of job.program job.engine (is_kept job) g
+-- what a job leaves on a graph by a journal, and its report
+abbrev pub job_outcome : RunJob → Multigraph → List JournalEntry → Outcome
+job_outcome job g journal = left_of job.program job.engine (is_kept job) g journal
 
-abbrev pub job_text : RunJob → Multigraph → List ℕ
-job_text job g = kept_text job.program job.engine (is_kept job) g
+abbrev pub job_text : RunJob → Multigraph → List JournalEntry → List ℕ
+job_text job g journal = kept_text job.program job.engine (is_kept job) g journal
+
+-- the journal is one of the job: that of the serial machine, or of actors any legal one that fits the fuel
+abbrev pub IsJournal : RunJob → Multigraph → List JournalEntry → Type 0
+IsJournal job g journal = HasJournalOf job.program job.engine g journal
 
 -- the id at which the paths of the program begin, where it has one
 abbrev pub source_of : ProgramName → Option ℕ
@@ -46,24 +51,27 @@ absent_in g (Some source) = if list_any (λ id. source == id) g.ids then None el
 abbrev pub absent_source : RunJob → Multigraph → Option ℕ
 absent_source job g = absent_in g (source_of job.program)
 
--- what was appended is the report of the text's graph, the run ended so, and each worker's counter took as
--- many steps as the worker gathered
+-- what was appended is the report of the text's graph by a journal of the job, the run ended so, and each
+-- worker's counter took as many steps as the worker gathered
 pub record IsReported (limits : Limits) (before after : Option (List ℕ)) (steps_before steps_after : List (Option ℕ)) (end : End) (job : RunJob) (text : List ℕ) : Type 0 where
   pub graph : Multigraph
   pub accepted : first_event job.format limits text ≡ None
   pub graph_of : IsGraphOfText job.format limits text graph
   pub source : absent_source job graph ≡ None
-  pub ended : (job_outcome job graph).last.end ≡ end
-  pub journal : HasJournalOf job.program job.engine graph
-  pub appended : after ≡ append_known before (job_text job graph)
-  pub counted : Take steps_before steps_after (job_gathers job graph)
+  pub journal : List JournalEntry
+  pub is_journal : IsJournal job graph journal
+  pub ended : (job_outcome job graph journal).last.end ≡ end
+  pub appended : after ≡ append_known before (job_text job graph journal)
+  pub counted : Counted job.engine steps_before steps_after (job_gathers job graph)
 
 -- what was appended is the report of the text's graph, and its values mean what the program is for
 pub record IsMeant (limits : Limits) (before after : Option (List ℕ)) (job : RunJob) (text : List ℕ) : Type 0 where
   pub graph : Multigraph
   pub graph_of : IsGraphOfText job.format limits text graph
-  pub appended : after ≡ append_known before (job_text job graph)
-  pub meaning : Means job.program graph (job_outcome job graph).state.values
+  pub journal : List JournalEntry
+  pub is_journal : IsJournal job graph journal
+  pub appended : after ≡ append_known before (job_text job graph journal)
+  pub meaning : Means job.program graph (job_outcome job graph journal).state.values
 
 -- what was appended is a front of the report of the text's graph
 pub record IsReportedInPart (limits : Limits) (before after : Option (List ℕ)) (job : RunJob) (text : List ℕ) : Type 0 where
@@ -71,7 +79,9 @@ pub record IsReportedInPart (limits : Limits) (before after : Option (List ℕ))
   pub accepted : first_event job.format limits text ≡ None
   pub graph_of : IsGraphOfText job.format limits text graph
   pub source : absent_source job graph ≡ None
-  pub front : SendsFront before after (job_text job graph)
+  pub journal : List JournalEntry
+  pub is_journal : IsJournal job graph journal
+  pub front : SendsFront before after (job_text job graph journal)
 
 -- the text is accepted, and its graph has no vertex of this id, which the job names
 pub record IsAbsent (limits : Limits) (id : ℕ) (job : RunJob) (text : List ℕ) : Type 0 where

@@ -235,6 +235,25 @@ fn executions_are_confirmed<R: Threads + Sync + Abort>(
     confirms_by(rt, alloc, "async", "tree", paths.as_str(), text)
 }
 
+/// The reports of actors, likewise.
+fn actors_are_confirmed<R: Threads + Sync + Abort>(
+    rt: &R,
+    alloc: Global,
+    format: &str,
+    source: &str,
+    text: &str,
+) -> Result<(), Fail> {
+    let plain = format!(in alloc; "--virtual 7 --workers 3 --format {format}")?;
+    let paths = format!(in alloc; "--virtual 7 --workers 3 --format {format} --source {source}")?;
+    let two = format!(in alloc; "--virtual 7 --workers 3 --format {format} --fuel 2")?;
+    confirms_by(rt, alloc, "async", "components", plain.as_str(), text)?;
+    confirms_by(rt, alloc, "async", "colour", two.as_str(), text)?;
+    confirms_by(rt, alloc, "async", "rank", plain.as_str(), text)?;
+    confirms_by(rt, alloc, "async", "rank", two.as_str(), text)?;
+    confirms_by(rt, alloc, "async", "sssp", paths.as_str(), text)?;
+    confirms_by(rt, alloc, "async", "tree", paths.as_str(), text)
+}
+
 #[test]
 fn reports_of_rounds_are_confirmed(rt: HostRuntime) -> Result<(), Fail> {
     let alloc = rt.alloc();
@@ -251,6 +270,15 @@ fn reports_of_executions_are_confirmed(rt: HostRuntime) -> Result<(), Fail> {
     executions_are_confirmed(&rt, alloc, "snap", "10", COMMENTS)?;
     executions_are_confirmed(&rt, alloc, "tsv", "1", WEIGHTED)?;
     executions_are_confirmed(&rt, alloc, "adj", "1", LISTS)
+}
+
+#[test]
+fn reports_of_actors_are_confirmed(rt: HostRuntime) -> Result<(), Fail> {
+    let alloc = rt.alloc();
+    actors_are_confirmed(&rt, alloc, "snap", "1", PATH)?;
+    actors_are_confirmed(&rt, alloc, "snap", "10", COMMENTS)?;
+    actors_are_confirmed(&rt, alloc, "tsv", "1", WEIGHTED)?;
+    actors_are_confirmed(&rt, alloc, "adj", "1", LISTS)
 }
 
 const ABSENT: [&str; 5] = ["check", "async", "sssp", "--source", "9"];

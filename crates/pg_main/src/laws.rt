@@ -1,9 +1,10 @@
 //! What quiescence means, and the definitions computed on small texts.
-ghost use Rattle.std.specs.Prelude.{◌≡◌, [], None};
+ghost use Rattle.std.specs.Prelude.{◌≡◌, List, [], None};
 ghost use Rattle.pg_base.specs.Limits.{standard_limits};
 ghost use Rattle.pg_graph.specs.Multigraph.{multigraph};
 ghost use Rattle.pg_readers.specs.declared.line.Format.TheVariants.{Snap};
 ghost use Rattle.pg_input.specs.Reading.{IsGraphOfText, first_event};
+ghost use Rattle.pg_law.specs.declared.values.JournalEntry.{JournalEntry};
 ghost use Rattle.pg_law.specs.declared.values.End.TheVariants.{Quiescent};
 ghost use Rattle.pg_graph.specs.Multigraph.{Multigraph, IsMultigraph};
 ghost use Rattle.pg_words.specs.declared.job.RunJob.{RunJob};
@@ -22,21 +23,21 @@ use pg_rank::laws::ranks_meet_their_equations;
 pub fn the_path_of_four()
     ensures accepted { first_event Snap standard_limits path_text ≡ None }
     ensures graph { IsGraphOfText Snap standard_limits path_text path_graph }
-    ensures report { job_text plain_job path_graph ≡ path_report }
+    ensures report { job_text plain_job path_graph [] ≡ path_report }
 {}
 
 /// No text has a graph without vertices.
 pub fn the_empty_text()
     ensures accepted { first_event Snap standard_limits [] ≡ None }
     ensures graph { IsGraphOfText Snap standard_limits [] (multigraph [] [] 0) }
-    ensures report { job_text plain_job (multigraph [] [] 0) ≡ empty_report }
+    ensures report { job_text plain_job (multigraph [] [] 0) [] ≡ empty_report }
 {}
 
 /// Where a job leaves nothing signalled, its values mean what the program is for.
 pub fn what_quiescence_means()
-    ensures { (job : RunJob) (g : Multigraph) → IsMultigraph g
-        → (job_outcome job g).last.end ≡ Quiescent
-        → Means job.program g (job_outcome job g).state.values }
+    ensures { (job : RunJob) (g : Multigraph) (journal : List JournalEntry) → IsMultigraph g
+        → (job_outcome job g journal).last.end ≡ Quiescent
+        → Means job.program g (job_outcome job g journal).state.values }
 {
     components_find_least_ids();
     colourings_are_proper();

@@ -1,7 +1,8 @@
 //! A run of a program that is named.
-ghost use Rattle.std.specs.Prelude.{◌≡◌, ◌≤◌, Bool, length, IsTrue};
+ghost use Rattle.std.specs.Prelude.{◌≡◌, ◌≤◌, Bool, List, length, IsTrue};
 ghost use Rattle.pg_graph.specs.Multigraph.{Multigraph};
 ghost use Rattle.pg_cut.specs.Cut.{Division};
+ghost use Rattle.pg_law.specs.declared.values.JournalEntry.{JournalEntry};
 ghost use Rattle.pg_words.specs.declared.job.Engine.{Engine as Machine};
 ghost use Rattle.pg_main.specs.Answers.{Reports};
 ghost use Rattle.pg_main.specs.Counters.{ArePresent};
@@ -11,6 +12,7 @@ ghost use Rattle.pg_check.specs.Outcomes.{HasJournal, HasJournalOf};
 ghost use Rattle.pg_sync.specs.Kept.{NeverClears};
 ghost use Rattle.pg_words.specs.Programs.{keeps};
 
+use crate::interleaved::report_virtual;
 use crate::refusal::Refusal;
 use crate::rounds::report_rounds;
 use crate::serial::report_serial;
@@ -25,7 +27,8 @@ use std::alloc::Global;
 use std::sync::ledger::Ledger;
 use std::thread::Threads;
 
-/// Whether a job keeps gathers: rounds do where it says so, and the program's scatters tell how gathers change.
+/// Whether a job keeps gathers: rounds and actors do where it says so, and the program's scatters tell how
+/// gathers change.
 fn keeps_gathers(job: RunJob) -> bool
     ensures value { result ≡ is_kept job }
     ensures program { IsTrue result → IsTrue (keeps job.program) }
@@ -33,6 +36,7 @@ fn keeps_gathers(job: RunJob) -> bool
     match job.engine {
         Engine::Sync { .. } => job.program.keeps_gathers() && job.cache,
         Engine::Serial { .. } => false,
+        Engine::Virtual { .. } => job.program.keeps_gathers() && job.cache,
     }
 }
 
@@ -47,15 +51,17 @@ fn report_run<R: Threads + Sync, P: VertexProgram, K: Sink, G: Gate, L: Ledger +
     gate: &G,
     steps: &mut [Option<Steps<L>>],
 ) -> Result<End, Refusal>
-    requires named { (engine : Machine) (kept : Bool) (g : Multigraph) →
-        left_by (P.meaning program.now) g engine kept ≡ left_of job.program engine kept g }
+    requires named { (engine : Machine) (kept : Bool) (g : Multigraph) (entries : List JournalEntry)
+        → left_by (P.meaning program.now) g engine kept entries
+        ≡ left_of job.program engine kept g entries }
     requires counts { (engine : Machine) (kept : Bool) (g : Multigraph) (cut : Division) (worker : _) →
         gathers_by (P.meaning program.now) engine kept g cut worker
         ≡ worker_gathers job.program engine kept g cut worker }
     requires deltas { IsTrue (keeps job.program) → IsTrue (P.meaning program.now).keeps_deltas }
     requires never { IsTrue (keeps job.program) → NeverClears (P.meaning program.now) }
-    requires legal { (engine : Machine) (g : Multigraph) →
-        HasJournal (P.meaning program.now) g engine → HasJournalOf job.program engine g }
+    requires legal { (engine : Machine) (g : Multigraph) (entries : List JournalEntry) →
+        HasJournal (P.meaning program.now) g engine entries
+        → HasJournalOf job.program engine g entries }
     requires some { 1 ≤ job.workers }
     requires few { job.workers ≤ 64 }
     requires enough { 64 ≤ length steps.old }
@@ -82,6 +88,19 @@ fn report_run<R: Threads + Sync, P: VertexProgram, K: Sink, G: Gate, L: Ledger +
             steps,
         ),
         Engine::Serial { fuel } => report_serial(alloc, program, name, fuel, graph, out, steps),
+        Engine::Virtual { fuel, seed } => report_virtual(
+            alloc,
+            program,
+            name,
+            fuel,
+            seed,
+            job.workers,
+            job.kind,
+            kept,
+            graph,
+            out,
+            steps,
+        ),
     }
 }
 

@@ -1,7 +1,8 @@
 //! Rounds of a program, by one worker or over a cut, and their report.
-ghost use Rattle.std.specs.Prelude.{◌≡◌, ◌+◌, ◌<◌, ◌≤◌, Bool, false, [], length, IfOk, IsTrue};
+ghost use Rattle.std.specs.Prelude.{◌≡◌, ◌+◌, ◌<◌, ◌≤◌, Bool, false, List, [], length, IfOk, IsTrue};
 ghost use Rattle.pg_graph.specs.Multigraph.{Multigraph};
 ghost use Rattle.pg_cut.specs.Cut.{Division, IsCutOf};
+ghost use Rattle.pg_law.specs.declared.values.JournalEntry.{JournalEntry};
 ghost use Rattle.pg_words.specs.declared.job.Engine.{Engine as Machine};
 ghost use Rattle.pg_words.specs.declared.job.Engine.TheVariants.{Sync};
 ghost use Rattle.pg_main.specs.Answers.{Reports};
@@ -42,7 +43,7 @@ fn rounds<P: VertexProgram, G: Gate, L: Ledger>(
     steps: &mut Steps<L>,
 ) -> Result<Ended, AllocError>
     ensures outcome { IfOk result (λ ended. outcome_with [] ended.state ended.last ≡
-        outcome_by (P.meaning program.now) graph.now (Sync limit)) }
+        outcome_by (P.meaning program.now) graph.now (Sync limit) []) }
     ensures values { IfOk result (λ ended. length ended.state.values ≡ length graph.now.ids) }
     ensures messages { IfOk result (λ ended. length ended.state.messages ≡ length graph.now.ids) }
     ensures counted { IfOk result (λ ended. steps.new ≡ steps.old + ended.last.gathers) }
@@ -72,7 +73,7 @@ fn rounds_alone<P: VertexProgram, G: Gate, L: Ledger>(
     requires some { 0 < length steps.old }
     requires present { ArePresent steps.old }
     ensures outcome { IfOk result (λ ended. outcome_with [] ended.state ended.last ≡
-        outcome_by (P.meaning program.now) graph.now (Sync limit)) }
+        outcome_by (P.meaning program.now) graph.now (Sync limit) []) }
     ensures values { IfOk result (λ ended. length ended.state.values ≡ length graph.now.ids) }
     ensures messages { IfOk result (λ ended. length ended.state.messages ≡ length graph.now.ids) }
     ensures counted { IfOk result (λ ended. FirstTakes steps.old steps.new ended.last.gathers) }
@@ -106,7 +107,7 @@ fn rounds_over<R: Threads + Sync, P: VertexProgram, G: Gate, L: Ledger + Send>(
     requires enough { 64 ≤ length steps.old }
     requires present { ArePresent steps.old }
     ensures outcome { IfOk result (λ ended. outcome_with [] ended.state ended.last ≡
-        left_by (P.meaning program.now) graph.now (Sync limit) cache) }
+        left_by (P.meaning program.now) graph.now (Sync limit) cache []) }
     ensures values { IfOk result (λ ended. length ended.state.values ≡ length graph.now.ids) }
     ensures messages { IfOk result (λ ended. length ended.state.messages ≡ length graph.now.ids) }
     ensures counted { IfOk result (λ _. Take steps.old steps.new (gathers_by
@@ -153,7 +154,7 @@ fn rounds_by<R: Threads + Sync, P: VertexProgram, G: Gate, L: Ledger + Send>(
     requires enough { 64 ≤ length steps.old }
     requires present { ArePresent steps.old }
     ensures outcome { IfOk result (λ ended. outcome_with [] ended.state ended.last ≡
-        left_by (P.meaning program.now) graph.now (Sync limit) cache) }
+        left_by (P.meaning program.now) graph.now (Sync limit) cache []) }
     ensures values { IfOk result (λ ended. length ended.state.values ≡ length graph.now.ids) }
     ensures messages { IfOk result (λ ended. length ended.state.messages ≡ length graph.now.ids) }
     ensures counted { IfOk result (λ _. Take steps.old steps.new (gathers_by
@@ -191,8 +192,9 @@ pub fn report_rounds<R: Threads + Sync, P: VertexProgram, K: Sink, G: Gate, L: L
     gate: &G,
     steps: &mut [Option<Steps<L>>],
 ) -> Result<End, Refusal>
-    requires named { (engine : Machine) (kept : Bool) (g : Multigraph) →
-        left_by (P.meaning program.now) g engine kept ≡ left_of name engine kept g }
+    requires named { (engine : Machine) (kept : Bool) (g : Multigraph) (entries : List JournalEntry)
+        → left_by (P.meaning program.now) g engine kept entries
+        ≡ left_of name engine kept g entries }
     requires counts { (engine : Machine) (kept : Bool) (g : Multigraph) (cut : Division) (worker : _) →
         gathers_by (P.meaning program.now) engine kept g cut worker
         ≡ worker_gathers name engine kept g cut worker }

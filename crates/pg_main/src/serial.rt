@@ -1,10 +1,11 @@
 //! The serial machine on a program, and its report.
-ghost use Rattle.std.specs.Prelude.{◌≡◌, ◌≤◌, ◌<◌, Bool, false, length, flat_map, IfOk, OnOk, OnErr, IsErrOf};
+ghost use Rattle.std.specs.Prelude.{◌≡◌, ◌≤◌, ◌<◌, Bool, false, List, length, flat_map, IfOk, OnOk, OnErr, IsErrOf};
 ghost use Rattle.std.specs.Io.KnownBytes.{append_known};
 ghost use Rattle.pg_base.specs.Faults.{HasRisen};
 ghost use Rattle.pg_base.specs.Writing.{SendsFront};
 ghost use Rattle.pg_graph.specs.Multigraph.{Multigraph};
 ghost use Rattle.pg_law.specs.Configuration.{start_state, IsFit};
+ghost use Rattle.pg_law.specs.declared.values.JournalEntry.{JournalEntry};
 ghost use Rattle.pg_law.specs.declared.async_end.AsyncError.TheVariants.{WriteFault};
 ghost use Rattle.pg_journal.specs.Entry.{entry_line};
 ghost use Rattle.pg_words.specs.declared.job.Engine.{Engine as Machine};
@@ -46,8 +47,9 @@ fn execute_all<P: VertexProgram, K: Sink, L: Ledger>(
     ensures outcome { let p = P.meaning program.now in let journal = journal_of p graph.now fuel in
         IfOk result (λ ended. outcome_with journal ended.state
         (record { end = ended.end; rounds = None; executions = ended.executions; gathers = ended.gathers })
-        ≡ outcome_by p graph.now (Serial fuel)) }
-    ensures legal { HasJournal (P.meaning program.now) graph.now (Serial fuel) }
+        ≡ outcome_by p graph.now (Serial fuel) journal) }
+    ensures legal { let p = P.meaning program.now in
+        HasJournal p graph.now (Serial fuel) (journal_of p graph.now fuel) }
     ensures values { IfOk result (λ ended. length ended.state.values ≡ length graph.now.ids) }
     ensures messages { IfOk result (λ ended. length ended.state.messages ≡ length graph.now.ids) }
     ensures counted { IfOk result (λ ended. FirstTakes steps.old steps.new ended.gathers) }
@@ -76,13 +78,15 @@ pub fn report_serial<P: VertexProgram, K: Sink, L: Ledger>(
     out: &mut K,
     steps: &mut [Option<Steps<L>>],
 ) -> Result<End, Refusal>
-    requires named { (engine : Machine) (kept : Bool) (g : Multigraph) →
-        left_by (P.meaning program.now) g engine kept ≡ left_of name engine kept g }
+    requires named { (engine : Machine) (kept : Bool) (g : Multigraph) (entries : List JournalEntry)
+        → left_by (P.meaning program.now) g engine kept entries
+        ≡ left_of name engine kept g entries }
     requires counts { (engine : Machine) (kept : Bool) (g : Multigraph) (cut : Division) (worker : _) →
         gathers_by (P.meaning program.now) engine kept g cut worker
         ≡ worker_gathers name engine kept g cut worker }
-    requires legal { (engine : Machine) (g : Multigraph) →
-        HasJournal (P.meaning program.now) g engine → HasJournalOf name engine g }
+    requires legal { (engine : Machine) (g : Multigraph) (entries : List JournalEntry) →
+        HasJournal (P.meaning program.now) g engine entries
+        → HasJournalOf name engine g entries }
     requires some { 0 < length steps.old }
     requires present { ArePresent steps.old }
     ensures { (cut : Division) → Reports name (Serial fuel) false graph.now
