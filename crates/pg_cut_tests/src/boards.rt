@@ -1,34 +1,14 @@
 //! The edge from 1 to 2 on one worker, with two actors.
 ghost use Rattle.std.specs.Prelude.{◌≡◌, length, IfOk};
-ghost use Rattle.pg_cut.specs.Cut.{IsCutOf};
 ghost use Rattle.pg_meals.specs.Boards.{IsBoard};
 
-use pg_base::Limits;
-use pg_cut::Cut;
-use pg_graph::{Graph, GraphBuilder};
+use crate::samples::{cut_by, line};
+use pg_graph::Graph;
 use pg_law::{Datum, EdgeWords, State};
 use pg_meals::board::Board;
 use std::alloc::Global;
 use std::process::Abort;
 use std::test::Fail;
-
-/// The edge from 1 to 2.
-fn line(alloc: Global) -> Result<Graph, Fail> {
-    let mut builder = GraphBuilder::new(alloc, Limits::standard())?;
-    builder.edge(1, 2, 1)?;
-    Ok(builder.finish()?)
-}
-
-/// All edges on one worker.
-fn whole(rt: &impl Abort, alloc: Global, graph: &Graph) -> Result<Cut, Fail>
-    ensures { IfOk result (λ cut. IsCutOf graph.now cut) }
-{
-    let place = vec![in alloc; 0u8; graph.edges().len()]?;
-    for worker in place.as_slice() {
-        assert!(rt; *worker < 1);
-    }
-    Ok(Cut::of(alloc, graph, 1, place)?)
-}
 
 /// Each vertex has its number plus one, as a datum and as a message.
 fn numbered(alloc: Global, graph: &Graph) -> Result<State, Fail> {
@@ -52,7 +32,7 @@ fn laid(rt: &impl Abort, alloc: Global, graph: &Graph) -> Result<Board<u64>, Fai
     ensures board { IfOk result (λ board. IsBoard graph.now board) }
     ensures actors { IfOk result (λ board. length board.actors.items ≡ 2) }
 {
-    let cut = whole(rt, alloc, graph)?;
+    let cut = cut_by(rt, alloc, graph, 1, &[0])?;
     let state = numbered(alloc, graph)?;
     assert!(rt; state.values.len() == graph.vertices() as usize);
     assert!(rt; state.messages.len() == graph.vertices() as usize);
@@ -62,7 +42,7 @@ fn laid(rt: &impl Abort, alloc: Global, graph: &Graph) -> Result<Board<u64>, Fai
 
 #[test]
 fn at_the_start_a_fork_rests_dirty_at_the_larger_number(rt: HostRuntime) -> Result<(), Fail> {
-    let graph = line(rt.alloc())?;
+    let graph = line(&rt, rt.alloc())?;
     let mut board = laid(&rt, rt.alloc(), &graph)?;
     assert!(rt; graph.vertices() == 2);
     assert_eq!(rt; board.forks.len(), 1);
@@ -76,7 +56,7 @@ fn at_the_start_a_fork_rests_dirty_at_the_larger_number(rt: HostRuntime) -> Resu
 
 #[test]
 fn a_signalled_vertex_is_claimed_with_evidence(rt: HostRuntime) -> Result<(), Fail> {
-    let graph = line(rt.alloc())?;
+    let graph = line(&rt, rt.alloc())?;
     let mut board = laid(&rt, rt.alloc(), &graph)?;
     assert!(rt; graph.vertices() == 2);
     assert!(rt; board.claim(&graph, 1, 0), "the vertex is free");

@@ -1,5 +1,5 @@
 //! The graphs and cuts that several tests use.
-ghost use Rattle.std.specs.Prelude.{IfOk};
+ghost use Rattle.std.specs.Prelude.{◌≡◌, length, IfOk};
 ghost use Rattle.pg_cut.specs.Cut.{IsCutOf};
 
 use pg_base::Limits;
@@ -8,6 +8,19 @@ use pg_graph::{Graph, GraphBuilder};
 use std::alloc::Global;
 use std::process::Abort;
 use std::test::Fail;
+
+/// The edge from 1 to 2.
+pub fn line(rt: &impl Abort, alloc: Global) -> Result<Graph, Fail>
+    ensures vertices { IfOk result (λ graph. length graph.ids ≡ 2) }
+    ensures edges { IfOk result (λ graph. length graph.edges ≡ 1) }
+{
+    let mut builder = GraphBuilder::new(alloc, Limits::standard())?;
+    builder.edge(1, 2, 1)?;
+    let graph = builder.finish()?;
+    assert!(rt; graph.vertices() == 2);
+    assert!(rt; graph.edges().len() == 1);
+    Ok(graph)
+}
 
 /// The edges from 1 to 2, from 2 to 3 and from 3 to 4.
 pub fn path(alloc: Global) -> Result<Graph, Fail> {

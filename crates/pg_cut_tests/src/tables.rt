@@ -1,13 +1,11 @@
 //! Tables over the edge from 1 to 2, on one worker, with two actors.
 ghost use Rattle.std.specs.Prelude.{◌≡◌, ◌<◌, length, IfOk};
-ghost use Rattle.pg_cut.specs.Cut.{IsCutOf};
 ghost use Rattle.pg_meals.specs.Steps.{IsWithin};
 ghost use Rattle.pg_meals.specs.Tables.{IsSameTable};
 
-use pg_base::Limits;
-use pg_cut::Cut;
+use crate::samples::{cut_by, line};
 use pg_delta::CacheCell;
-use pg_graph::{Graph, GraphBuilder};
+use pg_graph::Graph;
 use pg_law::{Datum, JournalEntry, State, Steps};
 use pg_meals::act::{Act, Outcome};
 use pg_meals::table::{Closed, MealTable};
@@ -16,30 +14,6 @@ use std::alloc::Global;
 use std::marker::Brand;
 use std::process::Abort;
 use std::test::Fail;
-
-/// The edge from 1 to 2.
-fn line(rt: &impl Abort, alloc: Global) -> Result<Graph, Fail>
-    ensures vertices { IfOk result (λ graph. length graph.ids ≡ 2) }
-    ensures edges { IfOk result (λ graph. length graph.edges ≡ 1) }
-{
-    let mut builder = GraphBuilder::new(alloc, Limits::standard())?;
-    builder.edge(1, 2, 1)?;
-    let graph = builder.finish()?;
-    assert!(rt; graph.vertices() == 2);
-    assert!(rt; graph.edges().len() == 1);
-    Ok(graph)
-}
-
-/// All edges on one worker.
-fn whole(rt: &impl Abort, alloc: Global, graph: &Graph) -> Result<Cut, Fail>
-    ensures { IfOk result (λ cut. IsCutOf graph.now cut) }
-{
-    let place = vec![in alloc; 0u8; graph.edges().len()]?;
-    for worker in place.as_slice() {
-        assert!(rt; *worker < 1);
-    }
-    Ok(Cut::of(alloc, graph, 1, place)?)
-}
 
 /// A table for two actors and eight entries.
 fn open<'g>(
@@ -51,7 +25,7 @@ fn open<'g>(
     ensures actors { IfOk result (λ table. length table.board.actors.items ≡ 2) }
     ensures graph { IfOk result (λ table. table.graph ≡ graph.now) }
 {
-    let cut = whole(rt, alloc, graph)?;
+    let cut = cut_by(rt, alloc, graph, 1, &[0])?;
     let state = State::start(alloc, program, graph)?;
     let table = MealTable::open(alloc, program, graph, &cut, state, None, 2, 8)?;
     Ok(table)
@@ -272,7 +246,7 @@ fn cells_are_given_back(rt: HostRuntime) -> Result<(), Fail> {
     let alloc = rt.alloc();
     let graph = line(&rt, alloc)?;
     let program = Components::new();
-    let cut = whole(&rt, alloc, &graph)?;
+    let cut = cut_by(&rt, alloc, &graph, 1, &[0])?;
     let state = State::start(alloc, &program, &graph)?;
     let caches: Option<Vec<CacheCell<u64>>> = Some(Vec::new(alloc));
     let table = MealTable::open(alloc, &program, &graph, &cut, state, caches, 1, 0)?;
