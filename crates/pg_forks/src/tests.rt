@@ -55,98 +55,47 @@ fn an_end_pins_takes_and_asks_by_the_table(rt: HostRuntime) -> Result<(), Fail> 
     Ok(())
 }
 
+/// What the word of this number becomes when the target gives it back.
+fn back(bits: u64, committed: bool, taken: bool, evidence: bool) -> Option<ForkWord> {
+    let why = Why {
+        committed,
+        taken,
+        evidence,
+    };
+    match word(bits) {
+        Some(fork) => fork.back(Side::Target, why),
+        None => None,
+    }
+}
+
 #[test]
 fn a_fork_goes_back_by_the_first_case_that_applies(rt: HostRuntime) -> Result<(), Fail> {
-    let rows = [
-        (
-            11,
-            true,
-            false,
-            true,
-            Some(3),
-            "committed, nobody asks: it stays, dirty",
-        ),
-        (
-            15,
-            true,
-            false,
-            true,
-            Some(0),
-            "committed, asked: it goes over, clean",
-        ),
-        (
-            13,
-            true,
-            true,
-            true,
-            Some(0),
-            "committed, clean and asked: it goes over, clean",
-        ),
-        (
-            15,
-            false,
-            false,
-            true,
-            Some(0),
-            "dirty and asked: it goes over, clean",
-        ),
-        (
-            9,
-            false,
-            true,
-            false,
-            Some(2),
-            "taken without evidence: it goes back dirty",
-        ),
-        (
-            13,
-            false,
-            true,
-            true,
-            Some(5),
-            "taken with evidence: it stays, and the wish too",
-        ),
-        (
-            11,
-            false,
-            false,
-            false,
-            Some(3),
-            "not taken: it stays as it was",
-        ),
-        (
-            3,
-            false,
-            false,
-            false,
-            None,
-            "an unpinned fork doesn't go back",
-        ),
-        (
-            8,
-            false,
-            false,
-            false,
-            None,
-            "nor does one that the other end pinned",
-        ),
-    ];
-    for (bits, committed, taken, evidence, after, text) in rows {
-        let why = Why {
-            committed,
-            taken,
-            evidence,
-        };
-        let went = match word(bits) {
-            Some(fork) => fork.back(Side::Target, why),
-            None => None,
-        };
-        let expected = match after {
-            Some(bits) => word(bits),
-            None => None,
-        };
-        assert_eq!(rt; went, expected, "{text}");
-    }
+    let stays = back(11, true, false, true);
+    assert_eq!(rt; stays, word(3), "committed, nobody asks: it stays, dirty");
+    let asked = back(15, true, false, true);
+    assert_eq!(rt; asked, word(0), "committed, asked: it goes over, clean");
+    let clean = back(13, true, true, true);
+    assert_eq!(rt;
+        clean,
+        word(0),
+        "committed, clean and asked: it goes over, clean"
+    );
+    let dirty = back(15, false, false, true);
+    assert_eq!(rt; dirty, word(0), "dirty and asked: it goes over, clean");
+    let idle = back(9, false, true, false);
+    assert_eq!(rt; idle, word(2), "taken without evidence: it goes back dirty");
+    let owed = back(13, false, true, true);
+    assert_eq!(rt;
+        owed,
+        word(5),
+        "taken with evidence: it stays, and the wish too"
+    );
+    let kept = back(11, false, false, false);
+    assert_eq!(rt; kept, word(3), "not taken: it stays as it was");
+    let unpinned = back(3, false, false, false);
+    assert_eq!(rt; unpinned, None, "an unpinned fork doesn't go back");
+    let other = back(8, false, false, false);
+    assert_eq!(rt; other, None, "nor does one that the other end pinned");
     Ok(())
 }
 

@@ -33,9 +33,11 @@ pub fn take_turn<P: VertexProgram, L: Ledger>(
     requires fit { IsFit (P.meaning program.now) graph.now state.now }
     requires u { u < length graph.now.ids }
     requires message { message_in state.now.messages u ≡ Some message }
-    ensures applied { IfOk result (λ turn. apply_to (P.meaning program.now) graph.now state.now u (Some message) ≡ Some turn.applied) }
+    ensures applied { IfOk result (λ turn. apply_to
+        (P.meaning program.now) graph.now state.now u (Some message) ≡ Some turn.applied) }
     ensures own { IfOk result (λ turn. IsApplied (P.meaning program.now) turn.applied) }
-    ensures gathers { IfOk result (λ turn. turn.gathers ≡ length (edges_over (P.meaning program.now).gather_edges graph.now u)) }
+    ensures gathers { IfOk result (λ turn. turn.gathers
+        ≡ length (edges_over (P.meaning program.now).gather_edges graph.now u)) }
     ensures counted { IfOk result (λ turn. steps.new ≡ steps.old + turn.gathers) }
 {
     laws_of(program);

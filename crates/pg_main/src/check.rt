@@ -92,7 +92,8 @@ pub fn check_job<S: Source, K: Sink, L: Ledger>(
 /// The header of the report, where one was found.
 fn header(part: &Part) -> Option<RawLine<'_>>
     ensures { shown result
-        ≡ option_map (λ line. (line, part.now.stop_ended)) (option_map (λ v. v.items) part.now.stop) }
+        ≡ option_map (λ line. (line, part.now.stop_ended)) (option_map
+        (λ v. v.items) part.now.stop) }
 {
     match &part.stop {
         Some(bytes) => Some(RawLine {
@@ -105,8 +106,8 @@ fn header(part: &Part) -> Option<RawLine<'_>>
 
 /// Writes that the report is right.
 fn write_confirmed<K: Sink>(out: &mut K) -> Result<(), Failed>
-    ensures written { Writes (K.written out.old) (K.written out.new) (K.faults out.old) (K.faults out.new)
-        confirmed_text result }
+    ensures written { Writes (K.written out.old) (K.written out.new) (K.faults out.old)
+        (K.faults out.new) confirmed_text result }
     ensures finished { IfOk result (λ _. K.finished out.new ≡ true) }
 {
     write_whole(out, b"confirmed\n")?;

@@ -54,7 +54,8 @@ fn report_run<R: Threads + Sync, P: VertexProgram, K: Sink, G: Gate, L: Ledger +
     requires named { (engine : Machine) (kept : Bool) (g : Multigraph) (entries : List JournalEntry)
         → left_by (P.meaning program.now) g engine kept entries
         ≡ left_of job.program engine kept g entries }
-    requires counts { (engine : Machine) (kept : Bool) (g : Multigraph) (cut : Division) (worker : _) →
+    requires counts { (engine : Machine) (kept : Bool) (g : Multigraph) (cut : Division)
+        (worker : _) →
         gathers_by (P.meaning program.now) engine kept g cut worker
         ≡ worker_gathers job.program engine kept g cut worker }
     requires deltas { IsTrue (keeps job.program) → IsTrue (P.meaning program.now).keeps_deltas }

@@ -195,7 +195,8 @@ pub fn report_rounds<R: Threads + Sync, P: VertexProgram, K: Sink, G: Gate, L: L
     requires named { (engine : Machine) (kept : Bool) (g : Multigraph) (entries : List JournalEntry)
         → left_by (P.meaning program.now) g engine kept entries
         ≡ left_of name engine kept g entries }
-    requires counts { (engine : Machine) (kept : Bool) (g : Multigraph) (cut : Division) (worker : _) →
+    requires counts { (engine : Machine) (kept : Bool) (g : Multigraph) (cut : Division)
+        (worker : _) →
         gathers_by (P.meaning program.now) engine kept g cut worker
         ≡ worker_gathers name engine kept g cut worker }
     requires deltas { IsTrue cache → IsTrue (P.meaning program.now).keeps_deltas }

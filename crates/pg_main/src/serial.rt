@@ -46,7 +46,12 @@ fn execute_all<P: VertexProgram, K: Sink, L: Ledger>(
     requires present { ArePresent steps.old }
     ensures outcome { let p = P.meaning program.now in let journal = journal_of p graph.now fuel in
         IfOk result (λ ended. outcome_with journal ended.state
-        (record { end = ended.end; rounds = None; executions = ended.executions; gathers = ended.gathers })
+        (record {
+          end = ended.end;
+          rounds = None;
+          executions = ended.executions;
+          gathers = ended.gathers;
+        })
         ≡ outcome_by p graph.now (Serial fuel) journal) }
     ensures legal { let p = P.meaning program.now in
         HasJournal p graph.now (Serial fuel) (journal_of p graph.now fuel) }
@@ -54,9 +59,11 @@ fn execute_all<P: VertexProgram, K: Sink, L: Ledger>(
     ensures messages { IfOk result (λ ended. length ended.state.messages ≡ length graph.now.ids) }
     ensures counted { IfOk result (λ ended. FirstTakes steps.old steps.new ended.gathers) }
     ensures written { OnOk result (K.written out.new ≡ append_known (K.written out.old)
-        (flat_map (entry_line graph.now wide) (journal_of (P.meaning program.now) graph.now fuel))) }
+        (flat_map (entry_line graph.now wide) (journal_of
+        (P.meaning program.now) graph.now fuel))) }
     ensures front { OnErr result (SendsFront (K.written out.old) (K.written out.new)
-        (flat_map (entry_line graph.now wide) (journal_of (P.meaning program.now) graph.now fuel))) }
+        (flat_map (entry_line graph.now wide) (journal_of
+        (P.meaning program.now) graph.now fuel))) }
     ensures fault { IsErrOf result WriteFault → HasRisen (K.faults out.old) (K.faults out.new) }
     ensures later { K.faults out.old ≤ K.faults out.new }
     ensures present { ArePresent steps.new }
@@ -81,7 +88,8 @@ pub fn report_serial<P: VertexProgram, K: Sink, L: Ledger>(
     requires named { (engine : Machine) (kept : Bool) (g : Multigraph) (entries : List JournalEntry)
         → left_by (P.meaning program.now) g engine kept entries
         ≡ left_of name engine kept g entries }
-    requires counts { (engine : Machine) (kept : Bool) (g : Multigraph) (cut : Division) (worker : _) →
+    requires counts { (engine : Machine) (kept : Bool) (g : Multigraph) (cut : Division)
+        (worker : _) →
         gathers_by (P.meaning program.now) engine kept g cut worker
         ≡ worker_gathers name engine kept g cut worker }
     requires legal { (engine : Machine) (g : Multigraph) (entries : List JournalEntry) →

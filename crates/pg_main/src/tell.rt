@@ -12,8 +12,8 @@ use pg_readers::BadLine;
 
 /// Writes texts one after another.
 pub fn write_parts<K: Sink>(sink: &mut K, parts: &[&[u8]]) -> Result<(), Failed>
-    ensures { Writes (K.written sink.old) (K.written sink.new) (K.faults sink.old) (K.faults sink.new)
-        (flat_map (λ part. part.now) parts.now) result }
+    ensures { Writes (K.written sink.old) (K.written sink.new) (K.faults sink.old)
+        (K.faults sink.new) (flat_map (λ part. part.now) parts.now) result }
 {
     for part in parts {
         write_whole(sink, part)?;

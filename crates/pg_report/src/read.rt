@@ -26,7 +26,8 @@ pub fn read_report_line(line: &[u8]) -> Option<ReportLine>
     // What is read has this text.
     ensures found { IfSome result (λ said. IsLine said × (line.now ≡ line_text said)) }
     // The text of a line is read as that line.
-    ensures only { (said : ReportLine) → IsLine said → line.now ≡ line_text said → result ≡ Some said }
+    ensures only { (said : ReportLine) → IsLine said → line.now ≡ line_text said
+        → result ≡ Some said }
 {
     read_line(line)
 }

@@ -19,8 +19,8 @@ pub fn write_head<K: Sink>(
     program: ProgramName,
     graph: &Graph,
 ) -> Result<(), Failed>
-    ensures { Writes (K.written sink.old) (K.written sink.new) (K.faults sink.old) (K.faults sink.new)
-        (head_text engine program graph.now) result }
+    ensures { Writes (K.written sink.old) (K.written sink.new) (K.faults sink.old)
+        (K.faults sink.new) (head_text engine program graph.now) result }
 {
     write_line(sink, ReportLine::Head { engine, program })?;
     write_counts(sink, graph)
@@ -36,8 +36,8 @@ pub fn write_tail<K: Sink>(
 ) -> Result<(), Failed>
     requires values { length state.now.values ≡ length graph.now.ids }
     requires messages { length state.now.messages ≡ length graph.now.ids }
-    ensures { Writes (K.written sink.old) (K.written sink.new) (K.faults sink.old) (K.faults sink.new)
-        (tail_text program graph.now state.now last) result }
+    ensures { Writes (K.written sink.old) (K.written sink.new) (K.faults sink.old)
+        (K.faults sink.new) (tail_text program graph.now state.now last) result }
 {
     write_values(sink, program.wide(), graph, state)?;
     write_signals(sink, graph, state)?;
@@ -46,8 +46,8 @@ pub fn write_tail<K: Sink>(
 
 /// Writes the counts of the graph, or a front of them where the sink fails.
 pub fn write_counts<K: Sink>(sink: &mut K, graph: &Graph) -> Result<(), Failed>
-    ensures { Writes (K.written sink.old) (K.written sink.new) (K.faults sink.old) (K.faults sink.new)
-        (ended (counts_line graph.now)) result }
+    ensures { Writes (K.written sink.old) (K.written sink.new) (K.faults sink.old)
+        (K.faults sink.new) (ended (counts_line graph.now)) result }
 {
     write_line(
         sink,
@@ -67,8 +67,8 @@ fn write_values<K: Sink>(
     state: &State,
 ) -> Result<(), Failed>
     requires { length state.now.values ≡ length graph.now.ids }
-    ensures { Writes (K.written sink.old) (K.written sink.new) (K.faults sink.old) (K.faults sink.new)
-        (values_text wide graph.now state.now) result }
+    ensures { Writes (K.written sink.old) (K.written sink.new) (K.faults sink.old)
+        (K.faults sink.new) (values_text wide graph.now state.now) result }
 {
     for v in 0..graph.vertices() {
         write_value(sink, wide, graph.info(v).id, state.values[v as usize])?;
@@ -77,8 +77,8 @@ fn write_values<K: Sink>(
 }
 
 fn write_value<K: Sink>(sink: &mut K, wide: bool, id: u32, datum: Datum) -> Result<(), Failed>
-    ensures { Writes (K.written sink.old) (K.written sink.new) (K.faults sink.old) (K.faults sink.new)
-        (ended (value_line wide id datum)) result }
+    ensures { Writes (K.written sink.old) (K.written sink.new) (K.faults sink.old)
+        (K.faults sink.new) (ended (value_line wide id datum)) result }
 {
     let second = if wide { Some(datum.second()) } else { None };
     let value = datum.first();
@@ -88,8 +88,8 @@ fn write_value<K: Sink>(sink: &mut K, wide: bool, id: u32, datum: Datum) -> Resu
 /// Writes a line for each vertex that is signalled.
 fn write_signals<K: Sink>(sink: &mut K, graph: &Graph, state: &State) -> Result<(), Failed>
     requires { length state.now.messages ≡ length graph.now.ids }
-    ensures { Writes (K.written sink.old) (K.written sink.new) (K.faults sink.old) (K.faults sink.new)
-        (signals_text graph.now state.now) result }
+    ensures { Writes (K.written sink.old) (K.written sink.new) (K.faults sink.old)
+        (K.faults sink.new) (signals_text graph.now state.now) result }
 {
     for v in 0..graph.vertices() {
         write_message(sink, graph.info(v).id, state.messages[v as usize])?;
@@ -98,8 +98,8 @@ fn write_signals<K: Sink>(sink: &mut K, graph: &Graph, state: &State) -> Result<
 }
 
 fn write_message<K: Sink>(sink: &mut K, id: u32, message: Option<u64>) -> Result<(), Failed>
-    ensures { Writes (K.written sink.old) (K.written sink.new) (K.faults sink.old) (K.faults sink.new)
-        (message_text id message) result }
+    ensures { Writes (K.written sink.old) (K.written sink.new) (K.faults sink.old)
+        (K.faults sink.new) (message_text id message) result }
 {
     match message {
         Some(message) => write_line(sink, ReportLine::Signal { id, message }),
@@ -109,8 +109,8 @@ fn write_message<K: Sink>(sink: &mut K, id: u32, message: Option<u64>) -> Result
 
 /// Writes a line and its line feed.
 fn write_line<K: Sink>(sink: &mut K, line: ReportLine) -> Result<(), Failed>
-    ensures { Writes (K.written sink.old) (K.written sink.new) (K.faults sink.old) (K.faults sink.new)
-        (ended line) result }
+    ensures { Writes (K.written sink.old) (K.written sink.new) (K.faults sink.old)
+        (K.faults sink.new) (ended line) result }
 {
     let mut buf = [0; 128];
     let length = put_ended(&mut buf, line);

@@ -97,7 +97,8 @@ pub fn hand_over<C: Copy>(
         datum_in values.new v ≡
         cond (is_among frontier.now v) (datum_in drafted.now v) (datum_in values.old v) }
     ensures messages { (v : _) → v < length messages.old →
-        message_in messages.new v ≡ cond (is_among frontier.now v) None (message_in messages.old v) }
+        message_in messages.new v
+        ≡ cond (is_among frontier.now v) None (message_in messages.old v) }
 {
     for at in 0..frontier.len() {
         let v = frontier[at] as usize;

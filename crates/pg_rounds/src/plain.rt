@@ -32,9 +32,13 @@ fn apply_one<P: VertexProgram, L: Ledger>(
 ) -> Result<Became<P::Carry>, AllocError>
     requires fit { IsFit (P.meaning program.now) graph.now state.now }
     requires v { v < length graph.now.ids }
-    ensures became { IfOk result (λ turn. turn.became ≡ outcome (P.meaning program.now) graph.now state.now (λ u. true) v) }
-    ensures executions { IfOk result (λ turn. turn.executions ≡ (if is_signalled state.now v then 1 else 0)) }
-    ensures gathers { IfOk result (λ turn. turn.gathers ≡ (if is_signalled state.now v then length (edges_over (P.meaning program.now).gather_edges graph.now v) else 0)) }
+    ensures became { IfOk result (λ turn. turn.became ≡ outcome
+        (P.meaning program.now) graph.now state.now (λ u. true) v) }
+    ensures executions { IfOk result (λ turn. turn.executions
+        ≡ (if is_signalled state.now v then 1 else 0)) }
+    ensures gathers { IfOk result (λ turn. turn.gathers
+        ≡ (if is_signalled state.now v then length (edges_over
+        (P.meaning program.now).gather_edges graph.now v) else 0)) }
     ensures counted { IfOk result (λ turn. steps.new ≡ steps.old + turn.gathers) }
 {
     match state.messages[v as usize] {
@@ -109,9 +113,12 @@ fn apply_all<P: VertexProgram, L: Ledger>(
     steps: &mut Steps<L>,
 ) -> Result<Applies<P::Carry>, AllocError>
     requires { IsFit (P.meaning program.now) graph.now state.now }
-    ensures became { IfOk result (λ applies. applies.became.items ≡ outcomes (P.meaning program.now) graph.now state.now (λ v. true)) }
-    ensures executions { IfOk result (λ applies. applies.executions ≡ length (signalled graph.now state.now)) }
-    ensures gathers { IfOk result (λ applies. applies.gathers ≡ gathers_in (P.meaning program.now) graph.now state.now) }
+    ensures became { IfOk result (λ applies. applies.became.items
+        ≡ outcomes (P.meaning program.now) graph.now state.now (λ v. true)) }
+    ensures executions { IfOk result (λ applies. applies.executions
+        ≡ length (signalled graph.now state.now)) }
+    ensures gathers { IfOk result (λ applies. applies.gathers
+        ≡ gathers_in (P.meaning program.now) graph.now state.now) }
     ensures counted { IfOk result (λ applies. steps.new ≡ steps.old + applies.gathers) }
 {
     let mut became = Vec::new(alloc);
@@ -140,7 +147,8 @@ fn values_of<P: VertexProgram>(
 ) -> Result<Vec<Datum>, AllocError>
     requires values { AreData (P.meaning _program.now) graph.now values.now }
     requires became { AreApplied (P.meaning _program.now) graph.now became.now }
-    ensures { IfOk result (λ after. after.items ≡ values_after (P.meaning _program.now) graph.now values.now became.now) }
+    ensures { IfOk result (λ after. after.items ≡ values_after
+        (P.meaning _program.now) graph.now values.now became.now) }
 {
     let mut after = Vec::new(alloc);
     for v in 0..graph.vertices() as usize {
@@ -159,7 +167,8 @@ fn messages_of<P: VertexProgram>(
 ) -> Result<Vec<Option<u64>>, AllocError>
     requires messages { AreMessages (P.meaning _program.now) graph.now messages.now }
     requires became { AreApplied (P.meaning _program.now) graph.now became.now }
-    ensures { IfOk result (λ after. after.items ≡ messages_after (P.meaning _program.now) graph.now messages.now became.now) }
+    ensures { IfOk result (λ after. after.items ≡ messages_after
+        (P.meaning _program.now) graph.now messages.now became.now) }
 {
     let mut after = Vec::new(alloc);
     for v in 0..graph.vertices() as usize {
@@ -197,9 +206,11 @@ fn scatter_all<P: VertexProgram>(
     requires became { AreApplied (P.meaning program.now) graph.now became.now }
     requires messages { AreMessages (P.meaning program.now) graph.now messages.old }
     ensures words { let p = P.meaning program.now in
-        IfOk result (λ after. after.items ≡ map (final_word p graph.now values.now words.now became.now) (edge_numbers graph.now)) }
+        IfOk result (λ after. after.items
+        ≡ map (final_word p graph.now values.now words.now became.now) (edge_numbers graph.now)) }
     ensures messages { let p = P.meaning program.now in
-        OnOk result (messages.new ≡ map (λ v. with_signals p graph.now values.now words.now became.now v (message_in messages.old v) (edges_at graph.now v)) (vertices graph.now)) }
+        OnOk result (messages.new ≡ map (λ v. with_signals p graph.now values.now words.now
+        became.now v (message_in messages.old v) (edges_at graph.now v)) (vertices graph.now)) }
 {
     laws_of(program);
     let carries = carries_of(alloc, became)?;
@@ -230,10 +241,13 @@ pub fn plain_round<P: VertexProgram, L: Ledger>(
     steps: &mut Steps<L>,
 ) -> Result<Rounded, AllocError>
     requires { IsFit (P.meaning program.now) graph.now state.now }
-    ensures state { IfOk result (λ rounded. rounded.state ≡ round_of (P.meaning program.now) graph.now state.now) }
+    ensures state { IfOk result (λ rounded. rounded.state
+        ≡ round_of (P.meaning program.now) graph.now state.now) }
     ensures fit { IfOk result (λ rounded. IsFit (P.meaning program.now) graph.now rounded.state) }
-    ensures executions { IfOk result (λ rounded. rounded.executions ≡ length (signalled graph.now state.now)) }
-    ensures gathers { IfOk result (λ rounded. rounded.gathers ≡ gathers_in (P.meaning program.now) graph.now state.now) }
+    ensures executions { IfOk result (λ rounded. rounded.executions
+        ≡ length (signalled graph.now state.now)) }
+    ensures gathers { IfOk result (λ rounded. rounded.gathers
+        ≡ gathers_in (P.meaning program.now) graph.now state.now) }
     ensures counted { IfOk result (λ rounded. steps.new ≡ steps.old + rounded.gathers) }
 {
     laws_of(program);

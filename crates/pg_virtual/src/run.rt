@@ -81,11 +81,13 @@ pub fn run_virtual<P: VertexProgram, K: Sink, T: EntryText, L: Ledger>(
     requires cut { IsCutOf graph.now cut.now }
     requires fit { IsFit (P.meaning program.now) graph.now state }
     requires cache { cache ≡ true → IsTrue (P.meaning program.now).keeps_deltas }
-    ensures ran { IfOk result (λ end. Ran (P.meaning program.now) graph.now (T.text text.now graph.now)
+    ensures ran { IfOk result (λ end. Ran (P.meaning program.now) graph.now
+        (T.text text.now graph.now)
         state fuel cache (K.written journal.old) (K.written journal.new) end) }
     ensures fit { IfOk result (λ end. IsFit (P.meaning program.now) graph.now end.state) }
     ensures counted { IfOk result (λ _. steps.old ≤ steps.new) }
-    ensures part { OnErr result (RanInPart (P.meaning program.now) graph.now (T.text text.now graph.now)
+    ensures part { OnErr result (RanInPart (P.meaning program.now) graph.now
+        (T.text text.now graph.now)
         state fuel (K.written journal.old) (K.written journal.new)) }
     ensures fault { IsErrOf result WriteFault →
         HasRisen (K.faults journal.old) (K.faults journal.new) }

@@ -36,7 +36,8 @@ impl Tally {
     /// There is no entry yet.
     pub fn new(alloc: Global, graph: &Graph) -> Result<Tally, AllocError>
         ensures len { IfOk result (λ tally. length tally.seen.items ≡ length graph.now.ids) }
-        ensures seen { IfOk result (λ tally. (v : ℕ) → slice_index_or tally.seen.items v false ≡ false) }
+        ensures seen { IfOk result (λ tally. (v : ℕ) → slice_index_or tally.seen.items v false
+            ≡ false) }
         ensures all { IfOk result (λ tally. tally.all ≡ 0) }
     {
         Ok(Tally {
@@ -51,7 +52,8 @@ impl Tally {
         requires len { length self.old.seen.items ≡ length graph.now.ids }
         requires few { self.old.all + 2 ^ 24 * length entries.now < 2 ^ 64 }
         ensures len { length self.new.seen.items ≡ length graph.now.ids }
-        ensures seen { (v : ℕ) → v < length graph.now.ids → slice_index_or self.new.seen.items v false
+        ensures seen { (v : ℕ) → v < length graph.now.ids
+            → slice_index_or self.new.seen.items v false
             ≡ (slice_index_or self.old.seen.items v false
             || list_any (λ entry. entry.vertex == v) entries.now) }
         ensures all { self.new.all ≡ self.old.all

@@ -10,7 +10,7 @@ use Rattle.pg_rounds.specs.Carries.{outcomes_with}
 use Rattle.pg_rounds.specs.Visits.{visitor, visitor_of, IsVisited}
 use Rattle.pg_rounds.proofs.Carrying.{runs_with, visitor_with}
 use Rattle.pg_rounds.proofs.Steps.{visited_none, visited_edge, received_own}
-use Rattle.pg_rounds.proofs.visit.visit_from.Goals as goal
+use Rattle.pg_rounds.proofs.sweep.visit_from.Goals as goal
 
 pub is_visitor-requires-clause-runs : goal.is_visitor-requires-clause-runs
 is_visitor-requires-clause-runs g c = sym (runs_with (g.P.VertexProgram.meaning c.args.program.now) c.args.graph.now c.args.carries.now c.requires.carries.count c.args.v) ∙ c.requires.runs

@@ -12,7 +12,7 @@ use Rattle.pg_rounds.specs.Visits.{executes_in, visits_of, visits, IsVisited}
 use Rattle.pg_rounds.proofs.Carrying.{with_own}
 use Rattle.pg_rounds.proofs.Steps.{visited_none, visited_then}
 use Rattle.pg_rounds.proofs.Visiting.{messages_all, words_all}
-use Rattle.pg_rounds.proofs.visit.visit_frontier.Goals as goal
+use Rattle.pg_rounds.proofs.sweep.visit_frontier.Goals as goal
 
 -- each of the frontier is a vertex that executes
 each_runs : (g : _) (c : goal.After-visit_around-arg-in-loop-v-1 g) → (get_or c.args.frontier.now c.loop-v.v-index 0 < length c.args.graph.now.ids) × (executes_in (outcomes_with (g.P.VertexProgram.meaning c.args.program.now) c.args.graph.now c.args.carries.now) (get_or c.args.frontier.now c.loop-v.v-index 0) ≡ true)

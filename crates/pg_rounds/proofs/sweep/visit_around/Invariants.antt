@@ -3,7 +3,7 @@ use Rattle.pg_law.specs.Configuration.{AreMessages}
 use Rattle.pg_law.specs.Monoid.{part}
 use Rattle.pg_rounds.specs.Carries.{outcomes_with}
 use Rattle.pg_rounds.specs.Visits.{visitor, IsVisited}
-use Rattle.pg_rounds.proofs.visit.visit_around.Given as goal
+use Rattle.pg_rounds.proofs.sweep.visit_around.Given as goal
 
 -- the edges so far are visited, where they are to be visited from here
 abbrev pub invariant-loop-e : goal.invariant-loop-e

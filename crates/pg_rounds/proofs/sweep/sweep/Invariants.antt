@@ -2,7 +2,7 @@ use Rattle.std.specs.List.{range_with_len}
 use Rattle.pg_law.specs.Configuration.{AreMessages}
 use Rattle.pg_rounds.specs.Carries.{outcomes_with}
 use Rattle.pg_rounds.specs.Visits.{IsVisited}
-use Rattle.pg_rounds.proofs.visit.sweep.Given as goal
+use Rattle.pg_rounds.proofs.sweep.sweep.Given as goal
 
 -- the edges so far are visited
 abbrev pub invariant-loop-e : goal.invariant-loop-e

@@ -5,7 +5,7 @@ use Rattle.std.proofs.lemmas.List.Elements.{filter_more}
 use Rattle.pg_rounds.specs.Carries.{outcomes_with}
 use Rattle.pg_rounds.specs.Visits.{visitor, IsVisited}
 use Rattle.pg_rounds.proofs.Steps.{visited_none, visited_then}
-use Rattle.pg_rounds.proofs.visit.visit_around.Goals as goal
+use Rattle.pg_rounds.proofs.sweep.visit_around.Goals as goal
 
 pub visit_from-requires-clause-messages : goal.visit_from-requires-clause-messages
 visit_from-requires-clause-messages g c κs within = c.loop-e.invariant.own

@@ -8,7 +8,7 @@ use Rattle.pg_rounds.specs.Carries.{outcomes_with}
 use Rattle.pg_rounds.specs.Visits.{IsVisited}
 use Rattle.pg_rounds.proofs.Steps.{visited_none, visited_then}
 use Rattle.pg_rounds.proofs.Sweeping.{swept_words, swept_messages}
-use Rattle.pg_rounds.proofs.visit.sweep.Goals as goal
+use Rattle.pg_rounds.proofs.sweep.sweep.Goals as goal
 
 pub loop-e-init : goal.loop-e-init
 loop-e-init g c = record {

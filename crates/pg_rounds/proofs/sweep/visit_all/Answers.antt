@@ -3,7 +3,7 @@ use Rattle.std.specs.List.{All}
 use Rattle.pg_graph.proofs.Numbers.{filter_numbers_each}
 use Rattle.pg_rounds.specs.Carries.{outcomes_with}
 use Rattle.pg_rounds.specs.Visits.{executes_in}
-use Rattle.pg_rounds.proofs.visit.visit_all.Goals as goal
+use Rattle.pg_rounds.proofs.sweep.visit_all.Goals as goal
 
 -- each of the frontier is a vertex
 pub is_dense-requires : goal.is_dense-requires

@@ -10,7 +10,7 @@ use Rattle.pg_rounds.specs.Carries.{outcomes_with}
 use Rattle.pg_rounds.specs.Visits.{visitor, visitor_of, IsVisited}
 use Rattle.pg_rounds.proofs.Carrying.{with_own}
 use Rattle.pg_rounds.proofs.Steps.{visited_none, visited_edge, received_own}
-use Rattle.pg_rounds.proofs.visit.visit_here.Goals as goal
+use Rattle.pg_rounds.proofs.sweep.visit_here.Goals as goal
 
 pub deliver-requires-clause-source : goal.deliver-requires-clause-source
 deliver-requires-clause-source g c κs within = let p = g.P.VertexProgram.meaning c.args.program.now in

@@ -2,7 +2,7 @@ use Rattle.std.proofs.Common.{take}
 use Rattle.pg_law.specs.Configuration.{AreMessages}
 use Rattle.pg_rounds.specs.Carries.{outcomes_with}
 use Rattle.pg_rounds.specs.Visits.{visits, IsVisited}
-use Rattle.pg_rounds.proofs.visit.visit_frontier.Given as goal
+use Rattle.pg_rounds.proofs.sweep.visit_frontier.Given as goal
 
 -- the vertices so far have visited their edges
 abbrev pub invariant-loop-v : goal.invariant-loop-v
