@@ -1,5 +1,6 @@
 pub mod Reading
 pub mod Listing
+pub mod Combining
 pub mod Visiting
 pub mod Skipping
 pub mod Receiving

@@ -1,7 +1,7 @@
 -- The places at which nobody with a carry scatters, and what is left out with them.
 use Rattle.std.proofs.Common.{◌≡◌, ◌≢◌, ℕ, zero, suc, ◌+◌, ◌-◌, ◌<◌, ◌≤◌, Bool, true, false, cond, ◌&&◌, ◌||◌, ◌==◌, Option, Some, None, is_some, List, [], ◌++◌, length, get_or, refl, sym, subst, ◌∙◌, ap, arith, ⊎_elim}
 use Rattle.std.specs.Prelude.{All, filter}
-use Rattle.std.specs.List.{range_with_len, list_any, flat_map}
+use Rattle.std.specs.List.{range_with_len, list_any}
 use Rattle.std.specs.List.Sorted.{IsPermutation, IsSorted, IsNonDecreasing}
 use Rattle.std.proofs.lemmas.Bool.{eq-eqb, ne_eqb, true≢false, false_from_ne_true, cases_lt}
 use Rattle.std.proofs.lemmas.List.{append-nil, get_or_default}
@@ -24,8 +24,8 @@ use Rattle.pg_mirrors.specs.Mirrors.{Mirrors}
 use Rattle.pg_gather.proofs.Sharing.{at_end}
 use Rattle.pg_apply_scatter.specs.declared.sent.Sent.{Sent}
 use Rattle.pg_apply_scatter.specs.Places.{is_listed, ArePlaces}
-use Rattle.pg_apply_scatter.specs.Sending.{near_with, scatter_near, scattered_here, source_here, final_at, sent_at, sent_to, listing}
-use Rattle.pg_apply_scatter.proofs.Visiting.{AreVisited, sent_more}
+use Rattle.pg_apply_scatter.specs.Sending.{near_with, scatter_near, scattered_here, source_here, final_at, sent_at, sent_to}
+use Rattle.pg_apply_scatter.proofs.Visiting.{AreVisited, sent_below, sent_more}
 
 -- a place that a vertex scatters over is among those around it
 among : (g : Multigraph) (numbers : List ℕ) (v : ℕ) (dir : Dir) (k : ℕ) → k < length numbers → is_around v dir (edge_at g (get_or numbers k 0)) ≡ true → (places : List ℕ)
@@ -83,29 +83,28 @@ module _ {Acc Carry : Type 0} (p : Program Acc Carry) (g : Multigraph) (m : Mirr
       ∙ ap (λ o. sent_to (end_at g Target e) o ++ []) (silent k h absent Source word)
 
   -- a place that isn't listed may be left out
-  skip_one : (with_deltas : Bool) (n : ℕ) (store : Store) (list : List (Sent Acc)) → n < length s.numbers → is_listed places n ≡ false → AreVisited p g m carries s with_deltas n store list → AreVisited p g m carries s with_deltas (n + 1) store list
-  skip_one with_deltas n store list h absent visited = record {
+  skip_one : (n : ℕ) (store : Store) (P : List (Sent Acc) → Type 0) → n < length s.numbers → is_listed places n ≡ false → AreVisited p g m carries s n store P → AreVisited p g m carries s (n + 1) store P
+  skip_one n store P h absent visited = record {
     kept = visited.kept;
     count = visited.count;
     done = λ k below. ⊎_elim (λ lt. visited.done k lt) (λ ge. let same : k ≡ n = omega arith in rw same (visited.rest n (omega arith) ∙ sym (final_stays n h absent))) (cases_lt k n);
     rest = λ k above. visited.rest k (omega arith);
-    sent = let so_far = flat_map (sent_at p g m carries s) (range_with_len 0 n) in
-        visited.sent ∙ ap (listing with_deltas) (sym (append-nil so_far) ∙ ap (λ xs. so_far ++ xs) (sym (nothing_sent n h absent)) ∙ sym (sent_more p g m carries s n));
+    sent = subst P (sym (append-nil (sent_below p g m carries s n)) ∙ ap (λ xs. sent_below p g m carries s n ++ xs) (sym (nothing_sent n h absent)) ∙ sym (sent_more p g m carries s n)) visited.sent;
   }
 
   -- and so may all from one place to another
-  skip_some : (with_deltas : Bool) (n more : ℕ) (store : Store) (list : List (Sent Acc)) → n + more ≤ length s.numbers → ((k : ℕ) → n ≤ k → k < n + more → is_listed places k ≡ false) → AreVisited p g m carries s with_deltas n store list → AreVisited p g m carries s with_deltas (n + more) store list
-  skip_some with_deltas n zero store list within absent visited = let Visited : ℕ → Type 0 = λ k. AreVisited p g m carries s with_deltas k store list in
+  skip_some : (n more : ℕ) (store : Store) (P : List (Sent Acc) → Type 0) → n + more ≤ length s.numbers → ((k : ℕ) → n ≤ k → k < n + more → is_listed places k ≡ false) → AreVisited p g m carries s n store P → AreVisited p g m carries s (n + more) store P
+  skip_some n zero store P within absent visited = let Visited : ℕ → Type 0 = λ k. AreVisited p g m carries s k store P in
       let e : n ≡ n + 0 = omega arith in
       subst Visited e visited
-  skip_some with_deltas n (suc more) store list within absent visited = let Visited : ℕ → Type 0 = λ k. AreVisited p g m carries s with_deltas k store list in
+  skip_some n (suc more) store P within absent visited = let Visited : ℕ → Type 0 = λ k. AreVisited p g m carries s k store P in
       let e : (n + more) + 1 ≡ n + suc more = omega arith in
-      subst Visited e (skip_one with_deltas (n + more) store list (omega arith) (absent (n + more) (omega arith) (omega arith)) (skip_some with_deltas n more store list (omega arith) (λ k low high. absent k low (omega arith)) visited))
+      subst Visited e (skip_one (n + more) store P (omega arith) (absent (n + more) (omega arith) (omega arith)) (skip_some n more store P (omega arith) (λ k low high. absent k low (omega arith)) visited))
 
-  pub skip_to : (with_deltas : Bool) (n m' : ℕ) (store : Store) (list : List (Sent Acc)) → n ≤ m' → m' ≤ length s.numbers → ((k : ℕ) → n ≤ k → k < m' → is_listed places k ≡ false) → AreVisited p g m carries s with_deltas n store list → AreVisited p g m carries s with_deltas m' store list
-  skip_to with_deltas n m' store list up within absent visited = let Visited : ℕ → Type 0 = λ k. AreVisited p g m carries s with_deltas k store list in
+  pub skip_to : (n m' : ℕ) (store : Store) (P : List (Sent Acc) → Type 0) → n ≤ m' → m' ≤ length s.numbers → ((k : ℕ) → n ≤ k → k < m' → is_listed places k ≡ false) → AreVisited p g m carries s n store P → AreVisited p g m carries s m' store P
+  skip_to n m' store P up within absent visited = let Visited : ℕ → Type 0 = λ k. AreVisited p g m carries s k store P in
       let e : n + (m' - n) ≡ m' = omega arith in
-      subst Visited e (skip_some with_deltas n (m' - n) store list (omega arith) (λ k low high. absent k low (omega arith)) visited)
+      subst Visited e (skip_some n (m' - n) store P (omega arith) (λ k low high. absent k low (omega arith)) visited)
 
 -- between the places before and those from here on, none is listed
 pub between : (places : List ℕ) (j k : ℕ) → ((i : ℕ) → i < length places → i < j → get_or places i 0 < k) → ((i : ℕ) → i < length places → j ≤ i → k < get_or places i 0) → is_listed places k ≡ false
@@ -164,12 +163,12 @@ ascending g numbers dir carries n old new slice same order is are = rw is (recor
 module _ {Acc Carry : Type 0} (p : Program Acc Carry) (g : Multigraph) (m : Mirrors) (carries : List (Option Carry)) (ok : IsMultigraph g) (count : length carries ≡ length g.ids) (s : Store) (places : List ℕ)
     (sorted : AreAscending g s.numbers p.scatter_edges carries (length g.ids) places) (inside : All (λ e. e < length g.edges) s.numbers) where
   -- all before the next listed place may be left out
-  pub to_place : (with_deltas : Bool) (j n : ℕ) (store : Store) (list : List (Sent Acc)) → j < length places → ((i : ℕ) → i < j → get_or places i 0 < n) → n ≤ get_or places j 0 → AreVisited p g m carries s with_deltas n store list → AreVisited p g m carries s with_deltas (get_or places j 0) store list
-  to_place with_deltas j n store list h passed up visited = let within : get_or places j 0 < length s.numbers = sorted.are.within j 0 h in
-      skip_to p g m carries ok count s places sorted.are inside with_deltas n (get_or places j 0) store list up (omega arith)
+  pub to_place : (j n : ℕ) (store : Store) (P : List (Sent Acc) → Type 0) → j < length places → ((i : ℕ) → i < j → get_or places i 0 < n) → n ≤ get_or places j 0 → AreVisited p g m carries s n store P → AreVisited p g m carries s (get_or places j 0) store P
+  to_place j n store P h passed up visited = let within : get_or places j 0 < length s.numbers = sorted.are.within j 0 h in
+      skip_to p g m carries ok count s places sorted.are inside n (get_or places j 0) store P up (omega arith)
       (λ k low high. between places j k (λ i below lt. omega (arith, passed i lt)) (λ i below ge. omega (arith, sorted.rises j i 0 ge below))) visited
 
   -- and so may all behind the last one
-  pub to_end : (with_deltas : Bool) (n : ℕ) (store : Store) (list : List (Sent Acc)) → ((i : ℕ) → i < length places → get_or places i 0 < n) → n ≤ length s.numbers → AreVisited p g m carries s with_deltas n store list → AreVisited p g m carries s with_deltas (length s.numbers) store list
-  to_end with_deltas n store list passed within visited = skip_to p g m carries ok count s places sorted.are inside with_deltas n (length s.numbers) store list within (omega arith)
+  pub to_end : (n : ℕ) (store : Store) (P : List (Sent Acc) → Type 0) → ((i : ℕ) → i < length places → get_or places i 0 < n) → n ≤ length s.numbers → AreVisited p g m carries s n store P → AreVisited p g m carries s (length s.numbers) store P
+  to_end n store P passed within visited = skip_to p g m carries ok count s places sorted.are inside n (length s.numbers) store P within (omega arith)
       (λ k low high. between places (length places) k (λ i below lt. omega (arith, passed i below)) (λ i below ge. absurd (omega arith))) visited

@@ -1,5 +1,5 @@
 -- The edges of a worker, visited one after another.
-use Rattle.std.proofs.Common.{◌≡◌, ℕ, zero, suc, ◌+◌, ◌<◌, ◌≤◌, Bool, true, false, cond, Option, Some, None, List, [], ◌∷◌, ◌++◌, length, get_or, set, refl, sym, ◌∙◌, ap, arith, append_assoc, ⊎_elim}
+use Rattle.std.proofs.Common.{◌≡◌, ℕ, zero, suc, ◌+◌, ◌<◌, ◌≤◌, Bool, true, false, cond, Option, Some, None, List, [], ◌∷◌, ◌++◌, length, get_or, set, refl, sym, subst, ◌∙◌, ap, arith, ⊎_elim}
 use Rattle.std.specs.Prelude.{All}
 use Rattle.std.specs.List.{range_with_len, flat_map}
 use Rattle.std.proofs.lemmas.Bool.{cases_eq}
@@ -25,8 +25,7 @@ use Rattle.pg_mirrors.specs.Mirrors.{Mirrors}
 use Rattle.pg_gather.specs.Partials.{IsReadable, IsReadableAt}
 use Rattle.pg_apply_scatter.specs.declared.sent.Sent.{Sent}
 use Rattle.pg_apply_scatter.proofs.Reading.{replica_own}
-use Rattle.pg_apply_scatter.proofs.Listing.{listing-nil, listing-append}
-use Rattle.pg_apply_scatter.specs.Sending.{AreReplicas, near_with, scatter_near, source_here, between_here, target_here, final_here, sent_over, final_at, sent_at, words_after, sent_from, sent_to, IsSentIn, listing}
+use Rattle.pg_apply_scatter.specs.Sending.{AreReplicas, near_with, scatter_near, source_here, between_here, target_here, final_here, sent_over, final_at, sent_at, words_after, sent_from, sent_to, IsSentIn}
 
 -- what holds of an element and of what is written holds of the element after the write
 set_keeps : {X : Type 0} (P : X → Type 0) (xs : List X) (i k : ℕ) (w d : X) → P (get_or xs i d) → P w → P (get_or (set xs k w) i d)
@@ -72,49 +71,45 @@ module _ {Acc Carry : Type 0} (p : Program Acc Carry) (g : Multigraph) (m : Mirr
         ∙ ap (λ b. word_after b target) is_between ∙ ap (word_after (between_here p g m carries e word)) is_target
         ∙ ap (λ k. final_here p g m carries k word) is_e ∙ ap (final_here p g m carries (get_or s.numbers i 0)) is_word
 
-    pub sent_is : (with_deltas : Bool) (i e word : ℕ) (old new : List (Sent Acc)) (middle : List (Sent Acc)) (src dst : ℕ) (source target : Option (Scattered Acc)) → e ≡ get_or s.numbers i 0 → word ≡ get_or s.words i 0
+    pub sent_is : (i e word src dst : ℕ) (source target : Option (Scattered Acc)) → e ≡ get_or s.numbers i 0 → word ≡ get_or s.words i 0
         → src ≡ end_at g Source e → dst ≡ end_at g Target e → source ≡ source_here p g m carries e word → target ≡ target_here p g m carries e word
-        → middle ≡ old ++ listing with_deltas (sent_to dst source) → new ≡ middle ++ listing with_deltas (sent_to src target) → new ≡ old ++ listing with_deltas (sent_at p g m carries s i)
-    sent_is with_deltas i e word old new middle src dst source target is_e is_word is_src is_dst is_source is_target is_middle is_new =
-        let first = sent_to (end_at g Target e) (source_here p g m carries e word) in
-        let second = sent_to (end_at g Source e) (target_here p g m carries e word) in
-        is_new ∙ rw (is_middle, is_src, is_dst, is_source, is_target) (append_assoc old (listing with_deltas first) (listing with_deltas second)
-        ∙ ap (λ xs. old ++ xs) (sym (listing-append with_deltas first second))
-        ∙ ap (λ k. old ++ listing with_deltas (sent_over p g m carries k word)) is_e ∙ ap (λ w. old ++ listing with_deltas (sent_over p g m carries (get_or s.numbers i 0) w)) is_word)
+        → sent_to dst source ++ sent_to src target ≡ sent_at p g m carries s i
+    sent_is i e word src dst source target is_e is_word is_src is_dst is_source is_target = rw (is_src, is_dst, is_source, is_target)
+        (ap (λ k. sent_over p g m carries k word) is_e ∙ ap (λ w. sent_over p g m carries (get_or s.numbers i 0) w) is_word)
 
 -- a store whose words alone are others
 kept_on : (first old new : Store) (words : List ℕ) → old ≡ record first { words = old.words } → new ≡ record old { words = words } → new ≡ record first { words = new.words }
 kept_on first old new words kept is = is ∙ ap (λ (s : Store). record s { words = words }) kept ∙ ap (λ ws. record first { words = ws }) (sym (ap (λ (s : Store). s.words) is))
 
 module _ {Acc Carry : Type 0} (p : Program Acc Carry) (g : Multigraph) (m : Mirrors) (carries : List (Option Carry)) (first : Store) where
-  -- what one visit more sends
-  pub sent_more : (n : ℕ) → flat_map (sent_at p g m carries first) (range_with_len 0 (n + 1)) ≡ flat_map (sent_at p g m carries first) (range_with_len 0 n) ++ sent_at p g m carries first n
-  sent_more n = ap (flat_map (sent_at p g m carries first)) (numbers_more n) ∙ flat_map-append (sent_at p g m carries first) (range_with_len 0 n) (n ∷ [])
-      ∙ ap (λ xs. flat_map (sent_at p g m carries first) (range_with_len 0 n) ++ xs) (append-nil (sent_at p g m carries first n))
+  -- what the visits of so many places of the first store send, and what one visit more sends
+  abbrev pub sent_below : ℕ → List (Sent Acc)
+  sent_below n = flat_map (sent_at p g m carries first) (range_with_len 0 n)
 
-module _ {Acc Carry : Type 0} (p : Program Acc Carry) (g : Multigraph) (m : Mirrors) (carries : List (Option Carry)) (first : Store) (with_deltas : Bool) where
-  -- so many places of the first store were visited: this is the store, and this was sent
-  pub record AreVisited (n : ℕ) (s : Store) (list : List (Sent Acc)) : Type 0 where
+  pub sent_more : (n : ℕ) → sent_below (n + 1) ≡ sent_below n ++ sent_at p g m carries first n
+  sent_more n = ap (flat_map (sent_at p g m carries first)) (numbers_more n) ∙ flat_map-append (sent_at p g m carries first) (range_with_len 0 n) (n ∷ [])
+      ∙ ap (λ xs. sent_below n ++ xs) (append-nil (sent_at p g m carries first n))
+
+  -- so many places of the first store were visited: this is the store, and what was sent has P
+  pub record AreVisited (n : ℕ) (s : Store) (P : List (Sent Acc) → Type 0) : Type 0 where
     pub kept : s ≡ record first { words = s.words }
     pub count : length s.words ≡ length first.words
     pub done : (k : ℕ) → k < n → get_or s.words k 0 ≡ final_at p g m carries first k
     pub rest : (k : ℕ) → n ≤ k → get_or s.words k 0 ≡ get_or first.words k 0
-    pub sent : list ≡ listing with_deltas (flat_map (sent_at p g m carries first) (range_with_len 0 n))
+    pub sent : P (sent_below n)
 
-  pub visited_none : AreVisited 0 first []
-  visited_none = record { kept = refl; count = refl; done = λ k h. absurd (omega arith); rest = λ k h. refl; sent = listing-nil with_deltas }
+  pub visited_none : (P : List (Sent Acc) → Type 0) → P [] → AreVisited 0 first P
+  visited_none P none = record { kept = refl; count = refl; done = λ k h. absurd (omega arith); rest = λ k h. refl; sent = none }
 
   -- one place more
-  pub visited_more : (n : ℕ) (old new : Store) (before after : List (Sent Acc)) → length first.words ≡ length first.numbers → n < length first.numbers → AreVisited n old before
-      → new ≡ record old { words = set old.words n (final_at p g m carries old n) } → after ≡ before ++ listing with_deltas (sent_at p g m carries old n) → AreVisited (n + 1) new after
-  visited_more n old new before after count h visited is sends = record {
+  pub visited_more : (n : ℕ) (old new : Store) (P Q : List (Sent Acc) → Type 0) → length first.words ≡ length first.numbers → n < length first.numbers → AreVisited n old P
+      → new ≡ record old { words = set old.words n (final_at p g m carries old n) } → ((sent : List (Sent Acc)) → P sent → Q (sent ++ sent_at p g m carries old n)) → AreVisited (n + 1) new Q
+  visited_more n old new P Q count h visited is sends = record {
     kept = kept_on first old new (set old.words n (final_at p g m carries old n)) visited.kept is;
     count = ap length words ∙ length-set old.words n (final_at p g m carries old n) ∙ visited.count;
     done = λ k below. ap (λ ws. get_or ws k 0) words ∙ ⊎_elim (λ same. here k same) (λ other. get_or-set_other old.words n k (final_at p g m carries old n) 0 other ∙ visited.done k (omega arith)) (cases_eq k n);
     rest = λ k above. ap (λ ws. get_or ws k 0) words ∙ get_or-set_other old.words n k (final_at p g m carries old n) 0 (λ same. absurd (omega arith)) ∙ visited.rest k (omega arith);
-    sent = let so_far = flat_map (sent_at p g m carries first) (range_with_len 0 n) in
-        sends ∙ ap (λ xs. xs ++ listing with_deltas (sent_at p g m carries old n)) visited.sent ∙ ap (λ xs. listing with_deltas so_far ++ listing with_deltas xs) sent_same
-        ∙ sym (listing-append with_deltas so_far (sent_at p g m carries first n)) ∙ ap (listing with_deltas) (sym (sent_more p g m carries first n));
+    sent = subst Q (ap (λ xs. sent_below n ++ xs) sent_same ∙ sym (sent_more n)) (sends (sent_below n) visited.sent);
   }
     where
       words : new.words ≡ set old.words n (final_at p g m carries old n)
@@ -136,14 +131,14 @@ module _ {Acc Carry : Type 0} (p : Program Acc Carry) (g : Multigraph) (m : Mirr
       here k same = rw same (get_or-set_same old.words n (final_at p g m carries old n) 0 (omega (arith, visited.count, count)) ∙ final_same)
 
   -- all places
-  pub visited_all : (n : ℕ) (s : Store) (sent : List (Sent Acc)) → length first.words ≡ length first.numbers → n ≡ length first.numbers → AreVisited n s sent → s ≡ record first { words = words_after p g m carries first }
-  visited_all n s sent count all visited = visited.kept ∙ ap (λ ws. record first { words = ws }) (ext_get_or 0 s.words (words_after p g m carries first)
+  pub visited_all : (n : ℕ) (s : Store) (P : List (Sent Acc) → Type 0) → length first.words ≡ length first.numbers → n ≡ length first.numbers → AreVisited n s P → s ≡ record first { words = words_after p g m carries first }
+  visited_all n s P count all visited = visited.kept ∙ ap (λ ws. record first { words = ws }) (ext_get_or 0 s.words (words_after p g m carries first)
       (omega (arith, visited.count, count, length-map-range_with_len (final_at p g m carries first) 0 (length first.numbers)))
       (λ i h. let inside : i < length first.numbers = omega (arith, visited.count, count) in
       visited.done i (omega arith) ∙ sym (get_or-map-range_with_len (final_at p g m carries first) 0 (length first.numbers) i i 0 inside (omega arith))))
 
-  pub sent_all : (n : ℕ) (s : Store) (sent : List (Sent Acc)) → n ≡ length first.numbers → AreVisited n s sent → sent ≡ listing with_deltas (sent_from p g m carries first)
-  sent_all n s sent all visited = visited.sent ∙ ap (λ k. listing with_deltas (flat_map (sent_at p g m carries first) (range_with_len 0 k))) all
+  pub sent_all : (n : ℕ) (s : Store) (P : List (Sent Acc) → Type 0) → n ≡ length first.numbers → AreVisited n s P → P (sent_from p g m carries first)
+  sent_all n s P all visited = let From : ℕ → Type 0 = λ k. P (sent_below k) in subst From all visited.sent
 
 -- what is made of each item has P
 All_flat_map : {X Y : Type 0} (P : Y → Type 0) (f : X → List Y) (xs : List X) → AllByRecursion (λ x. All P (f x)) xs → All P (flat_map f xs)
@@ -184,7 +179,7 @@ module _ {Acc Carry : Type 0} (p : Program Acc Carry) (g : Multigraph) (law : Is
   sent_to_own v None h o = All-nil (IsSentIn p (length g.ids))
   sent_to_own v (Some s) h o = All-cons (IsSentIn p (length g.ids)) (record { to = v; signal = s.signal; delta = s.delta }) [] (record { to = h; signal = o.signal; delta = o.delta }) (All-nil (IsSentIn p (length g.ids)))
 
-  sent_over_own : (e word : ℕ) → IsReadableAt g m e → p.IsWord word → All (IsSentIn p (length g.ids)) (sent_over p g m carries e word)
+  pub sent_over_own : (e word : ℕ) → IsReadableAt g m e → p.IsWord word → All (IsSentIn p (length g.ids)) (sent_over p g m carries e word)
   sent_over_own e word at w = All-append (IsSentIn p (length g.ids)) (sent_to (end_at g Target e) (source_here p g m carries e word)) (sent_to (end_at g Source e) (target_here p g m carries e word))
       (sent_to_own (end_at g Target e) (source_here p g m carries e word) (end_within p g law graph Target e at.edge) (source_own_here e word at w))
       (sent_to_own (end_at g Source e) (target_here p g m carries e word) (end_within p g law graph Source e at.edge) (target_own_here e word at w))

@@ -1,5 +1,5 @@
 -- What the vertices receive of all that is sent.
-use Rattle.std.specs.Prelude.{◌≡◌, ℕ, ◌<◌, ◌==◌, cond, Option, List, length, slice_index_or, map, fold}
+use Rattle.std.specs.Prelude.{◌≡◌, ℕ, ◌<◌, ◌==◌, Bool, true, cond, Option, List, [], All, length, slice_index_or, map, fold}
 use Rattle.pg_law.specs.Program.{Program}
 use Rattle.pg_law.specs.Laws.{IsOptional}
 use Rattle.pg_law.specs.Configuration.{message_in}
@@ -7,7 +7,7 @@ use Rattle.pg_law.specs.Round.{join}
 use Rattle.pg_delta.specs.declared.cell.CacheCell.{CacheCell}
 use Rattle.pg_delta.specs.Cell.{IsCell, cleared, posted}
 use Rattle.pg_apply_scatter.specs.declared.sent.Sent.{Sent}
-use Rattle.pg_apply_scatter.specs.Sending.{signals_in}
+use Rattle.pg_apply_scatter.specs.Sending.{IsSentIn, signals_in}
 
 abbrev pub cell_in : {A : Type 0} → List (CacheCell A) → ℕ → CacheCell A
 cell_in cells v = slice_index_or cells v cleared
@@ -37,6 +37,30 @@ module _ {Acc Carry : Type 0} (p : Program Acc Carry) where
   abbrev pub SignalsAreEnough : Type 0
   SignalsAreEnough = (v : ℕ) (message : Option ℕ) (lists : List (List (Sent Acc)))
       → message_from v message (map signals_in lists) ≡ message_from v message lists
+
+  -- two lists deliver the same where every vertex comes to the same message by the one and by the
+  -- other, whatever message of the program it had before, or none
+  abbrev pub DeliverTheSame : List (Sent Acc) → List (Sent Acc) → Type 0
+  DeliverTheSame list other = (v : ℕ) (message : Option ℕ) → IsOptional p.IsMessage message
+      → signals_of v message list ≡ signals_of v message other
+
+  -- the same for several lists, one after another
+  abbrev pub AllDeliverTheSame : List (List (Sent Acc)) → List (List (Sent Acc)) → Type 0
+  AllDeliverTheSame lists others = (v : ℕ) (message : Option ℕ) → IsOptional p.IsMessage message
+      → message_from v message lists ≡ message_from v message others
+
+  -- lists that deliver the same worker by worker deliver the same all together
+  abbrev pub EqualSignalsDeliverEqually : Type 0
+  EqualSignalsDeliverEqually = (count : ℕ) (lists others : List (List (Sent Acc)))
+      → All (All (IsSentIn p count)) lists → length lists ≡ length others
+      → ((w : ℕ) → w < length lists → DeliverTheSame (slice_index_or lists w []) (slice_index_or others w []))
+      → AllDeliverTheSame lists others
+
+  -- a list stands for all that is sent: with the deltas it is that list, and for the signals alone it
+  -- delivers the same
+  pub record StandsFor (with_deltas : Bool) (list sent : List (Sent Acc)) : Type 0 where
+    pub whole : with_deltas ≡ true → list ≡ sent
+    pub signals : DeliverTheSame list sent
 
   -- each message is combined with the signals for its vertex
   abbrev pub AreCombined : List (List (Sent Acc)) → List (Option ℕ) → List (Option ℕ) → Type 0

@@ -16,7 +16,9 @@ use Rattle.pg_law.specs.Round.{word_after}
 use Rattle.pg_edge_store.specs.Store.{Store}
 use Rattle.pg_mirrors.specs.Mirrors.{Mirrors, datum_at}
 use Rattle.pg_gather.specs.Partials.{replica_of}
+use Rattle.pg_law.specs.Configuration.{message_in}
 use Rattle.pg_apply_scatter.specs.declared.sent.Sent.{Sent}
+use Rattle.pg_apply_scatter.specs.declared.visit.Visits.{Visits}
 
 -- an edge with this word, as its end at this side sees it from here
 abbrev pub near_with : Multigraph → Mirrors → Side → ℕ → ℕ → Near
@@ -53,6 +55,10 @@ sent_to v (Some scattered) = record {
   delta = scattered.delta;
 } ∷ []
 
+-- what the visits of an edge send: that for its source to its target, and the other way
+abbrev pub sent_by : {Acc : Type 0} → Visits Acc → List (Sent Acc)
+sent_by visits = sent_to visits.edge.dst visits.source ++ sent_to visits.edge.src visits.target
+
 -- it goes to a vertex of the graph, and its values are the program's
 pub record IsSentIn {Acc Carry : Type 0} (p : Program Acc Carry) (count : ℕ) (sent : Sent Acc) : Type 0 where
   pub to : sent.to < count
@@ -65,6 +71,15 @@ without_delta sent = record { to = sent.to; signal = sent.signal; delta = Nothin
 
 abbrev pub signals_in : {Acc : Type 0} → List (Sent Acc) → List (Sent Acc)
 signals_in list = map without_delta (filter (λ sent. is_some sent.signal) list)
+
+-- a message for a vertex as a signal, where there is one
+abbrev pub signal_for : {Acc : Type 0} → ℕ → Option ℕ → List (Sent Acc)
+signal_for v None = []
+signal_for v (Some message) = record { to = v; signal = Some message; delta = Nothing } ∷ []
+
+-- one signal for each vertex that has a message, ascending
+abbrev pub one_each : {Acc : Type 0} → List (Option ℕ) → List (Sent Acc)
+one_each messages = flat_map (λ v. signal_for v (message_in messages v)) (range_with_len 0 (length messages))
 
 -- what is listed of all that is sent: the whole, or the signals alone
 abbrev pub listing : {Acc : Type 0} → Bool → List (Sent Acc) → List (Sent Acc)

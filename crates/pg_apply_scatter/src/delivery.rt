@@ -13,7 +13,7 @@ use pg_law::VertexProgram;
 use std::alloc::{AllocError, Global};
 
 /// Two messages for one vertex.
-fn join<P: VertexProgram>(program: &P, message: Option<u64>, signal: Option<u64>) -> Option<u64>
+pub fn join<P: VertexProgram>(program: &P, message: Option<u64>, signal: Option<u64>) -> Option<u64>
     requires message { IsOptional (P.meaning program.now).IsMessage message }
     requires signal { IsOptional (P.meaning program.now).IsMessage signal }
     ensures { result ≡ join_by (P.meaning program.now).combine message signal }

@@ -2,6 +2,7 @@
 ghost use Rattle.pg_apply_scatter.specs.Halves.{MastersBecome, PushesShare, WorkersScatter};
 ghost use Rattle.pg_apply_scatter.specs.Halves.{PartsAreARound};
 ghost use Rattle.pg_apply_scatter.specs.Delivering.{SignalsAreEnough};
+ghost use Rattle.pg_apply_scatter.specs.Delivering.{EqualSignalsDeliverEqually};
 ghost use Rattle.pg_apply_scatter.specs.Caches.{CellsFollow};
 
 use pg_delta::cells_stay_true;
@@ -29,6 +30,14 @@ pub fn workers_scatter<P: VertexProgram>(program: &P)
 pub fn signals_are_enough<P: VertexProgram>(program: &P)
     ensures { SignalsAreEnough (P.meaning program.now) }
 {}
+
+/// Lists that deliver the same worker by worker give the same messages, so a worker may combine its
+/// signals before it hands them over.
+pub fn equal_signals_deliver_equally<P: VertexProgram>(program: &P)
+    ensures { EqualSignalsDeliverEqually (P.meaning program.now) }
+{
+    laws_of(program);
+}
 
 /// From the shares of a state: apply at the masters, push, scatter by all workers and deliver give
 /// the shares and the messages of the state after a round.

@@ -8,13 +8,14 @@ mod near;
 mod push;
 mod scatter;
 mod sent;
+mod slots;
 mod visit;
 
 pub use apply::apply_masters;
 pub use delivery::deliver;
 pub use laws::{
-    cells_follow, masters_become, parts_are_a_round, pushes_share, signals_are_enough,
-    workers_scatter,
+    cells_follow, equal_signals_deliver_equally, masters_become, parts_are_a_round, pushes_share,
+    signals_are_enough, workers_scatter,
 };
 pub use push::push_mirrors;
 pub use scatter::{scatter_signals, scatter_worker};

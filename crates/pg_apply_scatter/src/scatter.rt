@@ -7,10 +7,12 @@ ghost use Rattle.pg_edge_store.specs.Store.{IsOver, places_around};
 ghost use Rattle.pg_gather.specs.Partials.{IsReadable};
 ghost use Rattle.pg_apply_scatter.specs.Places.{ArePlaces};
 ghost use Rattle.pg_apply_scatter.specs.Sending.{IsSentIn, words_after, sent_from};
-ghost use Rattle.pg_apply_scatter.specs.Sending.{listing, signals_in};
+ghost use Rattle.pg_apply_scatter.specs.Sending.{listing};
+ghost use Rattle.pg_apply_scatter.specs.Delivering.{DeliverTheSame, StandsFor};
 
 use crate::sent::Sent;
-use crate::visit::visit_place;
+use crate::slots::{combine_visits, list_slots};
+use crate::visit::{push_visits, visit_place};
 use pg_edge_store::EdgeStore;
 use pg_graph::{Dir, Graph};
 use pg_law::{VertexProgram, laws_of};
@@ -25,31 +27,52 @@ fn scatter_all<P: VertexProgram>(
     store: &mut EdgeStore,
     mirrors: &MirrorTable,
     carries: &[Option<P::Carry>],
-    with_deltas: bool,
 ) -> Result<Vec<Sent<P::Acc>>, AllocError>
     requires readable { IsReadable (P.meaning program.now) graph.now store.old mirrors.now }
     requires carries { AreCarries (P.meaning program.now) graph.now carries.now }
     ensures words { let p = P.meaning program.now in OnOk result (store.new ≡ record store.old {
       words = words_after p graph.now mirrors.now carries.now store.old;
     }) }
-    ensures sent { let p = P.meaning program.now in IfOk result (λ sent. sent.items ≡
-        listing with_deltas (sent_from p graph.now mirrors.now carries.now store.old)) }
+    ensures sent { let p = P.meaning program.now in IfOk result (λ sent.
+        sent.items ≡ sent_from p graph.now mirrors.now carries.now store.old) }
 {
     let mut sent = Vec::new(alloc);
     for place in 0..store.len() {
-        visit_place(
-            alloc,
-            program,
-            graph,
-            store,
-            mirrors,
-            carries,
-            place,
-            &mut sent,
-            with_deltas,
-        )?;
+        let visits = visit_place(alloc, program, graph, store, mirrors, carries, place)?;
+        push_visits(&mut sent, visits, true)?;
     }
     Ok(sent)
+}
+
+/// Visits all edges of a worker, ascending, and combines the signals for each vertex as it goes.
+///
+/// So at most one signal for each vertex is handed over, however many edges were scattered over.
+fn scatter_slots<P: VertexProgram>(
+    alloc: Global,
+    program: &P,
+    graph: &Graph,
+    store: &mut EdgeStore,
+    mirrors: &MirrorTable,
+    carries: &[Option<P::Carry>],
+) -> Result<Vec<Sent<P::Acc>>, AllocError>
+    requires readable { IsReadable (P.meaning program.now) graph.now store.old mirrors.now }
+    requires carries { AreCarries (P.meaning program.now) graph.now carries.now }
+    ensures words { let p = P.meaning program.now in OnOk result (store.new ≡ record store.old {
+      words = words_after p graph.now mirrors.now carries.now store.old;
+    }) }
+    ensures sent { let p = P.meaning program.now in IfOk result (λ sent. DeliverTheSame p
+        sent.items (sent_from p graph.now mirrors.now carries.now store.old)) }
+    ensures own { IfOk result (λ sent.
+        All (IsSentIn (P.meaning program.now) (length graph.now.ids)) sent.items) }
+{
+    laws_of(program);
+    let mut room = vec![in alloc; None; graph.vertices() as usize]?;
+    let slots = room.as_mut_slice();
+    for place in 0..store.len() {
+        let visits = visit_place(alloc, program, graph, store, mirrors, carries, place)?;
+        combine_visits(program, slots, &visits);
+    }
+    list_slots(alloc, slots)
 }
 
 /// Appends the places around a vertex, as long as there are fewer than a limit. False if not all of
@@ -135,23 +158,15 @@ fn scatter_places<P: VertexProgram>(
         if *place < next {
             continue;
         }
-        visit_place(
-            alloc,
-            program,
-            graph,
-            store,
-            mirrors,
-            carries,
-            *place,
-            &mut sent,
-            with_deltas,
-        )?;
+        let visits = visit_place(alloc, program, graph, store, mirrors, carries, *place)?;
+        push_visits(&mut sent, visits, with_deltas)?;
         next = *place + 1;
     }
     Ok(sent)
 }
 
-/// Visits the edges of a worker, at the vertices with a carry alone where these are few.
+/// Visits the edges of a worker, at the vertices with a carry alone where these are few. Where they
+/// are many and nobody asks for deltas, the signals for each vertex are combined.
 fn visit_edges<P: VertexProgram>(
     alloc: Global,
     program: &P,
@@ -166,8 +181,8 @@ fn visit_edges<P: VertexProgram>(
     ensures words { let p = P.meaning program.now in OnOk result (store.new ≡ record store.old {
       words = words_after p graph.now mirrors.now carries.now store.old;
     }) }
-    ensures sent { let p = P.meaning program.now in IfOk result (λ sent. sent.items ≡
-        listing with_deltas (sent_from p graph.now mirrors.now carries.now store.old)) }
+    ensures sent { let p = P.meaning program.now in IfOk result (λ sent. StandsFor p with_deltas
+        sent.items (sent_from p graph.now mirrors.now carries.now store.old)) }
     ensures own { IfOk result (λ sent.
         All (IsSentIn (P.meaning program.now) (length graph.now.ids)) sent.items) }
 {
@@ -185,7 +200,13 @@ fn visit_edges<P: VertexProgram>(
             places,
             with_deltas,
         ),
-        None => scatter_all(alloc, program, graph, store, mirrors, carries, with_deltas),
+        None => {
+            if with_deltas {
+                scatter_all(alloc, program, graph, store, mirrors, carries)
+            } else {
+                scatter_slots(alloc, program, graph, store, mirrors, carries)
+            }
+        }
     }
 }
 
@@ -218,10 +239,11 @@ pub fn scatter_worker<P: VertexProgram>(
 /// Visits the edges of a worker, ascending: each for its source first, and then for its target,
 /// where that vertex has a carry and the edge is a scatter edge of it.
 ///
-/// The answer is the signals that the visits send, in this order, without the deltas: as much as an
-/// engine needs that keeps no gathers (`signals_are_enough`). The store has the words after the
-/// visits. After `Err`, which is want of memory, some words may be those before and some those
-/// after.
+/// The answer is signals without deltas, which deliver the same as all that the visits send: as much
+/// as an engine needs that keeps no gathers (`equal_signals_deliver_equally`). Left open: whether
+/// they are those of the visits, in this order, or those for one vertex are combined into one. The
+/// store has the words after the visits. After `Err`, which is want of memory, some words may be
+/// those before and some those after.
 pub fn scatter_signals<P: VertexProgram>(
     alloc: Global,
     program: &P,
@@ -235,8 +257,8 @@ pub fn scatter_signals<P: VertexProgram>(
     ensures words { let p = P.meaning program.now in OnOk result (store.new ≡ record store.old {
       words = words_after p graph.now mirrors.now carries.now store.old;
     }) }
-    ensures sent { let p = P.meaning program.now in IfOk result (λ sent.
-        sent.items ≡ signals_in (sent_from p graph.now mirrors.now carries.now store.old)) }
+    ensures sent { let p = P.meaning program.now in IfOk result (λ sent. DeliverTheSame p
+        sent.items (sent_from p graph.now mirrors.now carries.now store.old)) }
     ensures own { IfOk result (λ sent.
         All (IsSentIn (P.meaning program.now) (length graph.now.ids)) sent.items) }
 {

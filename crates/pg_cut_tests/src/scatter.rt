@@ -3,12 +3,15 @@ ghost use Rattle.std.specs.Prelude.{◌≡◌, ◌<◌, length, All, IfOk};
 ghost use Rattle.pg_law.specs.Configuration.{AreMessages, IsFit};
 ghost use Rattle.pg_cut.specs.Cut.{IsCutOf};
 ghost use Rattle.pg_cut.specs.ByWorker.{lists_in};
+ghost use Rattle.pg_gather.specs.Partials.{IsReadable};
 ghost use Rattle.pg_paths.specs.Components.{components};
 ghost use Rattle.pg_apply_scatter.specs.Applying.{IsMastered};
 ghost use Rattle.pg_apply_scatter.specs.Sending.{IsSentIn};
 
-use crate::samples::{cut_by, path};
-use pg_apply_scatter::{Sent, apply_masters, deliver, push_mirrors, scatter_worker};
+use crate::samples::{cut_by, graph_of, path};
+use pg_apply_scatter::{
+    Sent, apply_masters, deliver, push_mirrors, scatter_signals, scatter_worker,
+};
 use pg_base::Limits;
 use pg_cut::Cut;
 use pg_delta::CacheCell;
@@ -66,12 +69,33 @@ fn sent_by_all(
     assert!(rt; carries.len() == graph.vertices() as usize);
     let mut sent = Vec::new(alloc);
     for worker in 0..cut.workers() {
-        sent.push(sent_by(alloc, graph, cut, worker, state, carries)?)?;
+        sent.push(sent_by(alloc, graph, cut, worker, state, carries, true)?)?;
     }
     Ok(sent)
 }
 
-/// What one worker sends.
+/// The edges and the replicas of one worker.
+fn parts_of(
+    alloc: Global,
+    graph: &Graph,
+    cut: &Cut,
+    worker: u8,
+    state: &State,
+) -> Result<(EdgeStore, MirrorTable), AllocError>
+    requires cut { IsCutOf graph.now cut.now }
+    requires worker { worker < cut.now.workers }
+    requires fit { IsFit components graph.now state.now }
+    ensures { IfOk result (λ parts. IsReadable components graph.now parts.0 parts.1) }
+{
+    shares_are_readable(&Components);
+    let _ = graph.vertices();
+    let words = state.edges.to_vec(alloc)?;
+    let store = EdgeStore::of(alloc, graph, cut, worker, words.as_slice())?;
+    let mirrors = MirrorTable::of(alloc, graph, cut, worker, state.values.as_slice())?;
+    Ok((store, mirrors))
+}
+
+/// What one worker sends, with its deltas, or signals alone.
 fn sent_by(
     alloc: Global,
     graph: &Graph,
@@ -79,6 +103,7 @@ fn sent_by(
     worker: u8,
     state: &State,
     carries: &[Option<bool>],
+    with_deltas: bool,
 ) -> Result<Vec<Sent<u64>>, AllocError>
     requires cut { IsCutOf graph.now cut.now }
     requires worker { worker < cut.now.workers }
@@ -88,12 +113,12 @@ fn sent_by(
         All (IsSentIn components (length graph.now.ids)) sent.items) }
 {
     let program = &Components;
-    shares_are_readable(program);
-    let _ = graph.vertices();
-    let words = state.edges.to_vec(alloc)?;
-    let mut store = EdgeStore::of(alloc, graph, cut, worker, words.as_slice())?;
-    let mirrors = MirrorTable::of(alloc, graph, cut, worker, state.values.as_slice())?;
-    scatter_worker(alloc, program, graph, &mut store, &mirrors, carries)
+    let (mut store, mirrors) = parts_of(alloc, graph, cut, worker, state)?;
+    if with_deltas {
+        scatter_worker(alloc, program, graph, &mut store, &mirrors, carries)
+    } else {
+        scatter_signals(alloc, program, graph, &mut store, &mirrors, carries)
+    }
 }
 
 /// The accumulator of an Add.
@@ -204,6 +229,33 @@ fn few_vertices_send_in_order(rt: HostRuntime) -> Result<(), Fail> {
     for i in 0..rows.len() {
         assert_eq!(rt; told(&sent[0][i]), rows[i]);
     }
+    Ok(())
+}
+
+// Vertices 0 and 1 tell their labels to 2, each over an edge, and 2 is told of the smaller one alone.
+#[test]
+fn a_worker_combines_its_signals(rt: HostRuntime) -> Result<(), Fail> {
+    let alloc = rt.alloc();
+    let graph = graph_of(&rt, alloc, &[(1, 3), (2, 3)])?;
+    assert!(rt; graph.vertices() == 3);
+    let cut = cut_by(&rt, alloc, &graph, 1, &[0, 0])?;
+    assert!(rt; cut.workers() == 1);
+    let state = labelled(&rt, alloc, &graph, &[4, 2, 9])?;
+    let carries = [Some(true), Some(true), None];
+    let sent = sent_by_all(&rt, alloc, &graph, &cut, &state, carries.as_slice())?;
+    assert_eq!(rt; sent.len(), 1);
+    assert_eq!(rt; sent[0].len(), 2);
+    let signals = sent_by(alloc, &graph, &cut, 0, &state, carries.as_slice(), false)?;
+    assert_eq!(rt; signals.len(), 1);
+    assert_eq!(rt; told(&signals[0]), (2, Some(2), None));
+    let mut combined = Vec::new(alloc);
+    combined.push(signals)?;
+    let mut messages = [None, Some(5), Some(7)];
+    deliver(alloc, &Components, combined, &mut messages, &mut [])?;
+    assert_eq!(rt; messages, [None, Some(5), Some(2)]);
+    let mut again = [None, Some(5), Some(7)];
+    deliver(alloc, &Components, sent, &mut again, &mut [])?;
+    assert_eq!(rt; again, messages);
     Ok(())
 }
 

@@ -3,9 +3,9 @@ ghost use Rattle.std.specs.Prelude.{◌≡◌, length, All, IfOk, IsSome, IsTrue
 ghost use Rattle.pg_cut.specs.Cut.{IsCutOf};
 
 use crate::samples::{cut_by, graph_of};
-use pg_base::{Gate, Limits, NoGate};
+use pg_base::{Gate, NoGate};
 use pg_colour::Colour;
-use pg_graph::{Graph, GraphBuilder};
+use pg_graph::Graph;
 use pg_law::{Datum, End, State, Steps, VertexProgram};
 use pg_paths::Components;
 use pg_rank::PageRank;
@@ -160,47 +160,6 @@ fn kept_ranks_are_gathered_once(rt: HostRuntime) -> Result<(), Fail> {
     assert_ranks(&rt, rt.alloc(), case, 4)
 }
 
-#[test]
-fn one_worker_gathers_as_three_do(rt: HostRuntime) -> Result<(), Fail> {
-    let alloc = rt.alloc();
-    let graph = graph_of(&rt, alloc, PATH.edges)?;
-    let case = Case {
-        workers: 1,
-        places: &[0, 0, 0],
-        ..PATH
-    };
-    let end = end_of(&rt, alloc, &Components, &graph, case, &NoGate)?;
-    assert_eq!(rt; end.end, End::Quiescent);
-    assert_took(&rt, &end, 3, 7, 10);
-    assert_values(&rt, &end.state, &[1, 1, 1, 1]);
-    Ok(())
-}
-
-/// At most so many rounds on the path take so much, and leave these labels.
-fn stops<R: Threads + Sync + Abort>(
-    rt: &R,
-    alloc: Global,
-    limit: u32,
-    executions: u64,
-    gathers: u64,
-    values: &[u64],
-) -> Result<(), Fail> {
-    let graph = graph_of(rt, alloc, PATH.edges)?;
-    let case = Case { limit, ..PATH };
-    let end = end_of(rt, alloc, &Components, &graph, case, &NoGate)?;
-    assert_eq!(rt; end.end, End::Spent, "limit {limit}");
-    assert_took(rt, &end, limit, executions, gathers);
-    assert_values(rt, &end.state, values);
-    Ok(())
-}
-
-#[test]
-fn a_limit_stops_the_rounds(rt: HostRuntime) -> Result<(), Fail> {
-    stops(&rt, rt.alloc(), 0, 0, 0, &[1, 2, 3, 4])?;
-    stops(&rt, rt.alloc(), 1, 4, 6, &[1, 1, 2, 3])?;
-    stops(&rt, rt.alloc(), 2, 6, 9, &[1, 1, 1, 2])
-}
-
 /// Two workers that wait for each other, each for a thousand million turns at most.
 #[derive(Drop)]
 struct Meeting {
@@ -285,37 +244,5 @@ fn two_ends_never_agree_on_their_colours(rt: HostRuntime) -> Result<(), Fail> {
     for v in 0..end.state.messages.len() {
         assert!(rt; end.state.messages[v].is_some(), "vertex {v}");
     }
-    Ok(())
-}
-
-const NO_EDGES: Case<'static> = Case {
-    edges: &[],
-    workers: 2,
-    places: &[],
-    cache: false,
-    limit: 10,
-};
-
-#[test]
-fn a_vertex_without_edges_executes_once(rt: HostRuntime) -> Result<(), Fail> {
-    let alloc = rt.alloc();
-    let mut builder = GraphBuilder::new(alloc, Limits::standard())?;
-    builder.vertex(7)?;
-    let graph = builder.finish()?;
-    let end = end_of(&rt, alloc, &Components, &graph, NO_EDGES, &NoGate)?;
-    assert_eq!(rt; end.end, End::Quiescent);
-    assert_took(&rt, &end, 1, 1, 0);
-    assert_values(&rt, &end.state, &[7]);
-    Ok(())
-}
-
-#[test]
-fn without_a_vertex_there_is_no_round(rt: HostRuntime) -> Result<(), Fail> {
-    let alloc = rt.alloc();
-    let graph = graph_of(&rt, alloc, &[])?;
-    let end = end_of(&rt, alloc, &Components, &graph, NO_EDGES, &NoGate)?;
-    assert_eq!(rt; end.end, End::Quiescent);
-    assert_took(&rt, &end, 0, 0, 0);
-    assert_values(&rt, &end.state, &[]);
     Ok(())
 }

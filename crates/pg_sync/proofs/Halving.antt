@@ -1,15 +1,13 @@
 -- The second half of a round, by workers that hold a state.
-use Rattle.std.proofs.Common.{◌≡◌, ◌≢◌, ℕ, zero, suc, ◌+◌, ◌<◌, ◌≤◌, ◌⊎◌, inl, inr, Bool, true, false, Option, Some, None, Ok, Err, List, [], ◌∷◌, length, get_or, map, refl, sym, subst, ◌∙◌, ap, arith}
+use Rattle.std.proofs.Common.{◌≡◌, ◌≢◌, ℕ, zero, suc, ◌<◌, ◌≤◌, ◌⊎◌, inl, inr, Bool, true, Option, Some, None, Ok, Err, List, [], ◌∷◌, length, get_or, map, refl, sym, subst, ◌∙◌, ap, arith}
 use Rattle.std.specs.Prelude.{All, AllPairs, IfOk, OnOk, Vec, Result}
-use Rattle.std.specs.List.{range_with_len}
 use Rattle.std.specs.declared.alloc.Global.{Global}
 use Rattle.std.specs.declared.alloc.AllocError.{AllocError}
-use Rattle.std.proofs.lemmas.List.Elements.{All-map}
 use Rattle.std.proofs.lemmas.Bool.{cases_lt}
 use Rattle.std.proofs.lemmas.List.{get_or-map, get_or_past, length-map, ext_get_or, get_or_default}
 use Rattle.std.proofs.lemmas.List.FromFn.{get_or-map-range_with_len, length-map-range_with_len}
 use Rattle.pg_graph.specs.Multigraph.{Multigraph, IsMultigraph}
-use Rattle.pg_graph.proofs.Numbers.{filter_numbers_each, numbers_below}
+use Rattle.pg_graph.proofs.Numbers.{filter_numbers_each}
 use Rattle.pg_law.specs.declared.values.Datum.{Datum}
 use Rattle.pg_law.specs.declared.values.Applied.{Applied}
 use Rattle.pg_law.specs.Values.{one}
@@ -28,14 +26,13 @@ use Rattle.pg_gather.specs.Shares.{IsShareOf}
 use Rattle.pg_gather.proofs.Sharing.{readable}
 use Rattle.pg_apply_scatter.specs.declared.sent.Sent.{Sent}
 use Rattle.pg_apply_scatter.specs.Pushing.{table_at, ArePushed}
-use Rattle.pg_apply_scatter.specs.Sending.{IsSentIn, sent_from, listing}
+use Rattle.pg_apply_scatter.specs.Sending.{IsSentIn, sent_from}
 use Rattle.pg_apply_scatter.specs.Applying.{applied_by}
 use Rattle.pg_apply_scatter.specs.Halves.{entry_of, became_by, data_of, applied_state, applied_round, store_after, sent_by_all, AreCarriesOf, AreRounded}
 use Rattle.pg_delta.specs.declared.cell.CacheCell.{CacheCell}
 use Rattle.pg_delta.specs.Cell.{posted}
-use Rattle.pg_apply_scatter.specs.Delivering.{message_from, cell_in, cell_from, AreCombined, ArePosted, AreCellsOf}
-use Rattle.pg_apply_scatter.proofs.Listing.{listing_own, signals_are_enough}
-use Rattle.pg_apply_scatter.proofs.Visiting.{sent_own}
+use Rattle.pg_apply_scatter.specs.Delivering.{message_from, cell_in, cell_from, AllDeliverTheSame, StandsFor, AreCombined, ArePosted, AreCellsOf}
+use Rattle.pg_apply_scatter.proofs.Combining.{equal_signals_deliver_equally}
 use Rattle.pg_apply_scatter.proofs.Caching.{cell_posted}
 use Rattle.pg_apply_scatter.proofs.Rounding.{parts_are_a_round}
 use Rattle.pg_apply_scatter.proofs.Applying.{masters_become, pushes_share}
@@ -56,17 +53,24 @@ on_ok_then (Err e) A B then on = tt
 abbrev pub ok_of : {A : Type 0} → A → Result A AllocError
 ok_of x = Ok x
 
--- lists that were taken from the workers, each what its worker sent
-sent_taken : {Acc : Type 0} (f : ℕ → List (Sent Acc)) (a : ℕ) (lists : List (Vec (Sent Acc) Global)) (mid : List (Scattering Acc)) → map ok_of lists ≡ map (λ worker. worker.sent) mid
-    → ((w : ℕ) (d : Scattering Acc) → w < length mid → IfOk (get_or mid w d).sent (λ sent. sent.items ≡ f (a + w))) → lists_in lists ≡ map f (range_with_len a (length mid))
-sent_taken f a [] [] taken each = refl
-sent_taken f a [] (worker ∷ mid) taken each = absurd (cc)
-sent_taken f a (list ∷ lists) [] taken each = absurd (cc)
-sent_taken {Acc = Acc} f a (list ∷ lists) (worker ∷ mid) taken each =
+-- lists that were taken from the workers: what holds of what each of them sent holds of its list
+taken_each : {Acc : Type 0} (P : ℕ → List (Sent Acc) → Type 0) (lists : List (Vec (Sent Acc) Global)) (mid : List (Scattering Acc)) → map ok_of lists ≡ map (λ worker. worker.sent) mid
+    → ((w : ℕ) (d : Scattering Acc) → w < length mid → IfOk (get_or mid w d).sent (λ sent. P w sent.items)) → (w : ℕ) → w < length mid → P w (get_or (lists_in lists) w [])
+taken_each P [] [] taken each w h = absurd (omega (arith, h))
+taken_each P [] (worker ∷ mid) taken each w h = absurd (cc)
+taken_each P (list ∷ lists) [] taken each w h = absurd (cc)
+taken_each {Acc = Acc} P (list ∷ lists) (worker ∷ mid) taken each zero h =
     let first : ok_of list ≡ worker.sent = cc in
-    let Is : Result (Vec (Sent Acc) Global) AllocError → Type 0 = λ r. IfOk r (λ sent. sent.items ≡ f (a + 0)) in
-    let here : list.items ≡ f a = subst Is (sym first) (each 0 worker (omega arith)) ∙ ap f (omega arith) in
-    rw here (ap (λ xs. f a ∷ xs) (sent_taken f (a + 1) lists mid (cc) (λ w d h. (let At : ℕ → Type 0 = λ k. IfOk (get_or mid w d).sent (λ sent. sent.items ≡ f k) in let e : a + suc w ≡ a + 1 + w = omega arith in subst At e) (each (suc w) d (omega (arith, h))))))
+    let Has : Result (Vec (Sent Acc) Global) AllocError → Type 0 = λ r. IfOk r (λ sent. P 0 sent.items) in
+    subst Has (sym first) (each 0 worker (omega arith))
+taken_each P (list ∷ lists) (worker ∷ mid) taken each (suc w) h = taken_each (λ k. P (suc k)) lists mid (cc) (λ k d below. each (suc k) d (omega (arith, below))) w (omega (arith, h))
+
+-- and there are as many
+taken_count : {Acc : Type 0} (lists : List (Vec (Sent Acc) Global)) (mid : List (Scattering Acc)) → map ok_of lists ≡ map (λ worker. worker.sent) mid → length (lists_in lists) ≡ length mid
+taken_count [] [] taken = refl
+taken_count [] (worker ∷ mid) taken = absurd (cc)
+taken_count (list ∷ lists) [] taken = absurd (cc)
+taken_count (list ∷ lists) (worker ∷ mid) taken = ap suc (taken_count lists mid (cc))
 
 -- so none of them is want of memory
 all_sent : {Acc : Type 0} (X : Type 0) (lists : List (Vec (Sent Acc) Global)) (mid : List (Scattering Acc)) → map ok_of lists ≡ map (λ worker. worker.sent) mid → (w : ℕ) (d : Scattering Acc) → w < length mid → OnOk (get_or mid w d).sent X → X
@@ -78,24 +82,6 @@ all_sent {Acc = Acc} X (list ∷ lists) (worker ∷ mid) taken zero d h on =
     let On : Result (Vec (Sent Acc) Global) AllocError → Type 0 = λ r. OnOk r X in
     subst On (sym first) on
 all_sent X (list ∷ lists) (worker ∷ mid) taken (suc w) d h on = all_sent X lists mid (cc) w d (omega (arith, h)) on
-
--- with its deltas all that is sent is listed
-listed_each : {Acc : Type 0} (lists : List (List (Sent Acc))) → map (listing true) lists ≡ lists
-listed_each [] = refl
-listed_each (list ∷ lists) = ap (λ xs. list ∷ xs) (listed_each lists)
-
-listed_all : {Acc : Type 0} (deltas : Bool) (lists : List (List (Sent Acc))) → deltas ≡ true → map (listing deltas) lists ≡ lists
-listed_all deltas lists all = ap (λ b. map (listing b) lists) all ∙ listed_each lists
-
--- what is listed of each worker's, one worker after another
-listed_by : {Acc : Type 0} (deltas : Bool) (f : ℕ → List (Sent Acc)) (ws : List ℕ) → map (λ w. listing deltas (f w)) ws ≡ map (listing deltas) (map f ws)
-listed_by deltas f [] = refl
-listed_by deltas f (w ∷ ws) = ap (λ xs. listing deltas (f w) ∷ xs) (listed_by deltas f ws)
-
--- the messages that come of what is listed are those that come of all that is sent
-listed_enough : {Acc Carry : Type 0} (p : Program Acc Carry) (deltas : Bool) (v : ℕ) (m : Option ℕ) (lists : List (List (Sent Acc))) → message_from p v m (map (listing deltas) lists) ≡ message_from p v m lists
-listed_enough p true v m lists = ap (message_from p v m) (listed_each lists)
-listed_enough p false v m lists = signals_are_enough p v m lists
 
 module _ {Acc Carry : Type 0} (p : Program Acc Carry) (law : IsLawful p) (g : Multigraph) (ok : IsMultigraph g) (cut : Division) (is : IsCutOf g cut) (s : Configuration)
     (workers : List (Scattering Acc)) (old : List Mirrors) (before : Masters Carry) (held : IsHeld p g cut s workers old before.values.items before.messages.items)
@@ -224,30 +210,37 @@ module _ {Acc Carry : Type 0} (p : Program Acc Carry) (law : IsLawful p) (g : Mu
       abbrev sent_of : ℕ → List (Sent Acc)
       sent_of w = sent_from p g (table_at mirrors w) after.carries.items (store_at workers w)
 
-      -- what each worker listed
-      lists_listed : lists_in lists ≡ map (λ w. listing deltas (sent_of w)) (range_with_len 0 cut.workers)
-      lists_listed = sent_taken f 0 lists mid taken each ∙ ap (λ n. map f (range_with_len 0 n)) (mid_count ∙ held.stores)
+      abbrev all_sent_now : List (List (Sent Acc))
+      all_sent_now = sent_by_all p g cut after.carries.items (store_at workers) (table_at mirrors)
+
+      lists_count : length (lists_in lists) ≡ cut.workers
+      lists_count = taken_count lists mid taken ∙ mid_count ∙ held.stores
+
+      sent_is : (w : ℕ) → w < cut.workers → get_or all_sent_now w [] ≡ sent_of w
+      sent_is w h = get_or-map-range_with_len sent_of 0 cut.workers w w [] h (omega arith)
+
+      -- what each worker listed stands for what it sent
+      stands : (w : ℕ) → w < cut.workers → StandsFor p deltas (get_or (lists_in lists) w []) (get_or all_sent_now w [])
+      stands w h = rw (sent_is w h) (taken_each (λ k list. StandsFor p deltas list (sent_of k)) lists mid taken each w (omega (arith, h, mid_count, held.stores)))
         where
-          f : ℕ → List (Sent Acc)
-          f w = listing deltas (sent_of w)
-
-          each : (w : ℕ) (d : Scattering Acc) → w < length mid → IfOk (get_or mid w d).sent (λ sent. sent.items ≡ f (0 + w))
+          each : (w : ℕ) (d : Scattering Acc) → w < length mid → IfOk (get_or mid w d).sent (λ sent. StandsFor p deltas sent.items (sent_of w))
           each w d h = let below : w < length workers = omega (arith, h, mid_count) in
-              let At : Scattering Acc → Type 0 = λ worker. IfOk (get_or mid w d).sent (λ sent. sent.items ≡ listing deltas (sent_from p g (table_at mirrors w) after.carries.items worker.store)) in
-              let here = subst At (get_or_default workers w d no_worker below) (scattered w d below).sent in
-              let From : ℕ → Type 0 = λ k. IfOk (get_or mid w d).sent (λ sent. sent.items ≡ f k) in
-              let e : w ≡ 0 + w = omega arith in
-              subst From e here
-
-      -- all that was sent, as far as it is listed
-      lists_sent : lists_in lists ≡ map (listing deltas) (sent_by_all p g cut after.carries.items (store_at workers) (table_at mirrors))
-      lists_sent = lists_listed ∙ listed_by deltas sent_of (range_with_len 0 cut.workers)
+              let At : Scattering Acc → Type 0 = λ worker. IfOk (get_or mid w d).sent (λ sent. StandsFor p deltas sent.items (sent_from p g (table_at mirrors w) after.carries.items worker.store)) in
+              subst At (get_or_default workers w d no_worker below) (scattered w d below).sent
 
       pub lists_own : All (All (IsSentIn p (length g.ids))) (lists_in lists)
-      lists_own = rw lists_listed (All-map (All (IsSentIn p (length g.ids))) (λ w. listing deltas (sent_of w)) (range_with_len 0 cut.workers)
-          (λ i d h. let w = get_or (range_with_len 0 cut.workers) i d in
-          let reads = readable_at mirrors pushed w (numbers_below cut.workers i d h) in
-          listing_own p (length g.ids) deltas (sent_of w) (sent_own p g law ok (table_at mirrors w) after.carries.items (record { ascending = reads.ascending; values = reads.values }) carries_own (store_at workers w) reads)))
+      lists_own w d h = let Own : List (Sent Acc) → Type 0 = All (IsSentIn p (length g.ids)) in
+          subst Own (get_or_default (lists_in lists) w [] d h) (taken_each (λ k list. All (IsSentIn p (length g.ids)) list) lists mid taken
+          (λ k e below. (scattered k e (omega (arith, below, mid_count))).own) w (omega (arith, h, taken_count lists mid taken)))
+
+      -- the messages that come of the lists are those that come of all that was sent
+      lists_deliver : AllDeliverTheSame p (lists_in lists) all_sent_now
+      lists_deliver = equal_signals_deliver_equally p law (length g.ids) (lists_in lists) all_sent_now lists_own
+          (lists_count ∙ sym (length-map-range_with_len sent_of 0 cut.workers)) (λ w h. (stands w (omega (arith, h, lists_count))).signals)
+
+      -- with their deltas they are all that was sent
+      lists_whole : deltas ≡ true → lists_in lists ≡ all_sent_now
+      lists_whole all = ext_get_or [] (lists_in lists) all_sent_now (lists_count ∙ sym (length-map-range_with_len sent_of 0 cut.workers)) (λ w h. (stands w (omega (arith, h, lists_count))).whole all)
 
       store_left : (w : ℕ) → w < cut.workers → (get_or mid w no_worker).store ≡ store_after p g (table_at mirrors w) after.carries.items (store_at workers w)
       store_left w h = let below : w < length workers = omega (arith, h, held.stores) in
@@ -266,8 +259,8 @@ module _ {Acc Carry : Type 0} (p : Program Acc Carry) (law : IsLawful p) (g : Mu
         values = values_written ∙ ap (values_after p g s.values) became_is;
         messages = ext_get_or None waiting (round p g s).messages (count_kept ∙ ap length messages_written ∙ messages_count ∙ sym round_count)
             (λ v h. let below : v < length g.ids = omega (arith, h, count_kept, ap length messages_written, messages_count) in
-            combined v (omega (arith, h, count_kept)) ∙ ap (message_from p v (message_in after.messages.items v)) lists_sent
-            ∙ listed_enough p deltas v (message_in after.messages.items v) (sent_by_all p g cut after.carries.items (store_at workers) (table_at mirrors)) ∙ ap (λ ms. message_from p v (message_in ms v) (sent_by_all p g cut after.carries.items (store_at workers) (table_at mirrors))) (messages_written ∙ ap (messages_after p g s.messages) became_is) ∙ rounded.messages v below);
+            combined v (omega (arith, h, count_kept)) ∙ lists_deliver v (message_in after.messages.items v) (rw messages_written (state_fit.messages.each v below))
+            ∙ ap (λ ms. message_from p v (message_in ms v) all_sent_now) (messages_written ∙ ap (messages_after p g s.messages) became_is) ∙ rounded.messages v below);
       }
         where
           last_count : length last ≡ length mid
@@ -292,6 +285,6 @@ module _ {Acc Carry : Type 0} (p : Program Acc Carry) (law : IsLawful p) (g : Mu
       cells_told speaks cells last all own posts v h =
           let Carried : List (Option (Applied Carry)) → Type 0 = λ b. AreCarriesOf after.carries.items b in
           let Shared : List (Option (Applied Carry)) → Type 0 = λ b. (w : ℕ) → w < cut.workers → IsShareOf g cut w (applied_state p g s b) (store_at workers w) (table_at mirrors w) in
-          posts v h ∙ ap (cell_from p v (cell_in cells v)) (lists_sent ∙ listed_all deltas (sent_by_all p g cut after.carries.items (store_at workers) (table_at mirrors)) (all (omega (arith, h))))
+          posts v h ∙ ap (cell_from p v (cell_in cells v)) (lists_whole (all (omega (arith, h))))
           ∙ cell_posted p law speaks g ok s held.fit cut after.carries.items (store_at workers) (table_at mirrors) (cell_in cells v) is (subst Carried became_is carries_of) (subst Shared became_is (share_pushed mirrors pushed)) (own v h).pending v
           ∙ ap (posted p.sum (cell_in cells v)) (sym (delta_is p law g ok s held.fit speaks v))

@@ -7,7 +7,8 @@ use Rattle.pg_edge_store.specs.Store.{Store}
 use Rattle.pg_mirrors.specs.Mirrors.{Mirrors}
 use Rattle.pg_gather.specs.Partials.{IsReadable, partial_sums, gathers_here}
 use Rattle.pg_apply_scatter.specs.Pushing.{table_at}
-use Rattle.pg_apply_scatter.specs.Sending.{sent_from, listing, IsSentIn}
+use Rattle.pg_apply_scatter.specs.Sending.{sent_from, IsSentIn}
+use Rattle.pg_apply_scatter.specs.Delivering.{StandsFor}
 use Rattle.pg_apply_scatter.specs.Halves.{store_after}
 use Rattle.pg_sync.specs.declared.worker.Scattering.{Scattering}
 
@@ -25,12 +26,13 @@ module _ {Acc Carry : Type 0} (p : Program Acc Carry) (g : Multigraph) (s : Stor
         → new.0 ≡ Some (n + gathers_here p g s m wanted)
 
 module _ {Acc Carry : Type 0} (p : Program Acc Carry) (g : Multigraph) (m : Mirrors) where
-  -- what the worker sends over its own edges, or the signals of that alone, and its words after
+  -- what the worker sends over its own edges, or signals alone that deliver the same, and its words
+  -- after
   pub record HasScattered (carries : List (Option Carry)) (with_deltas : Bool)
       (old new : Scattering Acc) : Type 0 where
     pub store : OnOk new.sent (new.store ≡ store_after p g m carries old.store)
     pub sent : IfOk new.sent (λ sent.
-        sent.items ≡ listing with_deltas (sent_from p g m carries old.store))
+        StandsFor p with_deltas sent.items (sent_from p g m carries old.store))
     pub own : IfOk new.sent (λ sent. All (IsSentIn p (length g.ids)) sent.items)
 
 -- each worker can read its own edges through its own replicas

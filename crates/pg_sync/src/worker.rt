@@ -2,7 +2,8 @@
 ghost use Rattle.std.specs.Prelude.{◌≡◌, length, All, IfOk, OnOk, IsSome};
 ghost use Rattle.pg_law.specs.Carries.{AreCarries};
 ghost use Rattle.pg_gather.specs.Partials.{IsReadable};
-ghost use Rattle.pg_apply_scatter.specs.Sending.{IsSentIn, words_after, sent_from, listing};
+ghost use Rattle.pg_apply_scatter.specs.Sending.{IsSentIn, words_after, sent_from};
+ghost use Rattle.pg_apply_scatter.specs.Delivering.{StandsFor};
 ghost use Rattle.pg_sync.specs.Phases.{HasGathered};
 
 use pg_apply_scatter::{Sent, scatter_signals, scatter_worker};
@@ -45,7 +46,7 @@ pub fn gather<P: VertexProgram, L: Ledger>(
     }
 }
 
-/// What a worker sends over its own edges, with its deltas, or the signals alone.
+/// What a worker sends over its own edges, with its deltas, or signals alone that deliver the same.
 fn scatter_over<P: VertexProgram>(
     alloc: Global,
     program: &P,
@@ -60,8 +61,8 @@ fn scatter_over<P: VertexProgram>(
     ensures words { let p = P.meaning program.now in OnOk result (store.new ≡ record store.old {
       words = words_after p graph.now mirrors.now carries.now store.old;
     }) }
-    ensures sent { let p = P.meaning program.now in IfOk result (λ sent. sent.items ≡
-        listing with_deltas (sent_from p graph.now mirrors.now carries.now store.old)) }
+    ensures sent { let p = P.meaning program.now in IfOk result (λ sent. StandsFor p with_deltas
+        sent.items (sent_from p graph.now mirrors.now carries.now store.old)) }
     ensures own { IfOk result (λ sent.
         All (IsSentIn (P.meaning program.now) (length graph.now.ids)) sent.items) }
 {

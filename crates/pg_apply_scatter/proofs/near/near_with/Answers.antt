@@ -1,8 +1,8 @@
-use Rattle.std.proofs.Common.{◌≡◌, refl, sym, subst, ◌∙◌, ap}
+use Rattle.std.proofs.Common.{◌≡◌, refl, ◌∙◌, ap}
 use Rattle.pg_graph.specs.Multigraph.{opposite, end_of, end_at}
 use Rattle.pg_mirrors.specs.Mirrors.{datum_at}
 use Rattle.pg_gather.specs.Partials.{replica_of}
-use Rattle.pg_apply_scatter.proofs.Reading.{end_datum, end_own}
+use Rattle.pg_apply_scatter.proofs.Reading.{end_datum}
 use Rattle.pg_apply_scatter.proofs.near.near_with.Goals as goal
 
 pub returns-clause-value : goal.returns-clause-value

@@ -1,13 +1,15 @@
-use Rattle.std.proofs.Common.{◌≡◌, ◌<◌, length, set, None, refl, sym, subst, ◌∙◌, ap}
+use Rattle.std.proofs.Common.{◌≡◌, ◌<◌, ◌++◌, List, length, get_or, set, None, refl, sym, subst, ◌∙◌, ap}
+use Rattle.std.specs.Prelude.{All}
 use Rattle.pg_graph.specs.declared.edge.Side.TheVariants.{Source, Target}
 use Rattle.pg_graph.specs.Multigraph.{end_at}
 use Rattle.pg_graph.proofs.Stored.{end_read}
 use Rattle.pg_edge_store.specs.Store.{Store}
 use Rattle.pg_gather.specs.Partials.{IsReadable}
 use Rattle.pg_law.proofs.Fitting.{end_within, word_own}
-use Rattle.pg_apply_scatter.specs.Sending.{source_here, between_here, target_here}
+use Rattle.pg_apply_scatter.specs.Sending.{source_here, between_here, target_here, sent_to, sent_at, IsSentIn}
+use Rattle.pg_apply_scatter.specs.declared.sent.Sent.{Sent}
 use Rattle.pg_apply_scatter.proofs.Reading.{replicas_here}
-use Rattle.pg_apply_scatter.proofs.Visiting.{readable_after, visited, final_is, sent_is}
+use Rattle.pg_apply_scatter.proofs.Visiting.{readable_after, visited, final_is, sent_is, sent_over_own}
 use Rattle.pg_apply_scatter.proofs.visit.visit_place.Goals as goal
 
 -- the edge at the place is one of the graph
@@ -35,7 +37,7 @@ scatter_from-requires-2-clause-local g c κs within = rw (c.edge-e.ensures, c.lo
     (replicas_here (g.P.VertexProgram.meaning c.args.program.now) c.args.graph.now c.args.store.now c.args.mirrors.now c.args.place c.requires.readable c.requires.place)
 
 -- what the two visits gave
-visits : (g : _) (c : goal.In_ok-push_sent-2 g) → let p = g.P.VertexProgram.meaning c.args.program.now in
+visits : (g : _) (c : goal.After-set_word g) → let p = g.P.VertexProgram.meaning c.args.program.now in
     (c.in_ok-source.source ≡ source_here p c.args.graph.now c.args.mirrors.now c.args.carries.now c.edge-e.result c.word-word.result)
     × (c.word_of-between.result ≡ between_here p c.args.graph.now c.args.mirrors.now c.args.carries.now c.edge-e.result c.word-word.result)
     × (c.in_ok-target.target ≡ target_here p c.args.graph.now c.args.mirrors.now c.args.carries.now c.edge-e.result c.word-word.result)
@@ -52,10 +54,22 @@ returns-clause-words g c = let both = visits g c in
     c.edge-e.ensures c.word-word.ensures both.1 both.2 c.word_of.ensures in
     c.set_word.ensures ∙ ap (λ w. record c.args.store.now { words = set c.args.store.now.words c.args.place w }) final
 
+-- what they send
+sends : (g : _) (c : goal.After-set_word g) → let p = g.P.VertexProgram.meaning c.args.program.now in let edge = get_or c.edges.result.now c.edge-e.result (record { src = 0; dst = 0; weight = 0 }) in
+    sent_to edge.dst c.in_ok-source.source ++ sent_to edge.src c.in_ok-target.target ≡ sent_at p c.args.graph.now c.args.mirrors.now c.args.carries.now c.args.store.now c.args.place
+sends g c = let both = visits g c in
+    sent_is (g.P.VertexProgram.meaning c.args.program.now) c.args.graph.now c.args.mirrors.now c.args.carries.now c.args.store.now c.args.place c.edge-e.result c.word-word.result _ _ c.in_ok-source.source c.in_ok-target.target
+    c.edge-e.ensures c.word-word.ensures (rw c.edges.ensures.value refl) (rw c.edges.ensures.value refl) both.0 both.2
+
 pub returns-clause-sent : goal.returns-clause-sent
-returns-clause-sent g c = let both = visits g c in
-    sent_is (g.P.VertexProgram.meaning c.args.program.now) c.args.graph.now c.args.mirrors.now c.args.carries.now c.args.store.now c.args.with_deltas c.args.place c.edge-e.result c.word-word.result c.args.sent.now.items c.push_sent-2.new.sent.items c.push_sent.new.sent.items _ _ c.in_ok-source.source c.in_ok-target.target
-    c.edge-e.ensures c.word-word.ensures (rw c.edges.ensures.value refl) (rw c.edges.ensures.value refl) both.0 both.2 c.in_ok-push_sent.ensures c.in_ok-push_sent-2.ensures
+returns-clause-sent g c = sends g c
+
+pub returns-clause-own : goal.returns-clause-own
+returns-clause-own g c = let p = g.P.VertexProgram.meaning c.args.program.now in let store = c.args.store.now in
+    let Own : List (Sent g.row.P-Acc.Denot) → Type 0 = All (IsSentIn p (length c.args.graph.now.ids)) in
+    subst Own (sym (sends g c)) (sent_over_own p c.args.graph.now c.laws_of.ensures c.edges.ensures.graph c.args.mirrors.now c.args.carries.now
+    (record { ascending = c.requires.readable.ascending; values = c.requires.readable.values }) c.requires.carries (get_or store.numbers c.args.place 0) (get_or store.words c.args.place 0)
+    (c.requires.readable.edges c.args.place 0 c.requires.place) (c.requires.readable.words c.args.place c.requires.place))
 
 pub returns-clause-readable : goal.returns-clause-readable
 returns-clause-readable g c = let p = g.P.VertexProgram.meaning c.args.program.now in let law = c.laws_of.ensures in let graph = c.edges.ensures.graph in
