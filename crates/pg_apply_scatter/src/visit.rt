@@ -104,28 +104,12 @@ pub fn visit_place<P: VertexProgram>(
     let local = store.local(place);
     let edge = graph.edges()[e as usize];
     let word = store.word(place);
-    let source = scatter_from(
-        alloc,
-        program,
-        graph,
-        mirrors,
-        Side::Source,
-        e,
-        local,
-        word,
-        carries[edge.src as usize],
-    )?;
+    let (side, carry) = (Side::Source, carries[edge.src as usize]);
+    let source = scatter_from(alloc, program, graph, mirrors, side, e, local, word, carry)?;
     let between = word_of(word, &source);
+    let (side, carry) = (Side::Target, carries[edge.dst as usize]);
     let target = scatter_from(
-        alloc,
-        program,
-        graph,
-        mirrors,
-        Side::Target,
-        e,
-        local,
-        between,
-        carries[edge.dst as usize],
+        alloc, program, graph, mirrors, side, e, local, between, carry,
     )?;
     store.set_word(place, word_of(between, &target));
     Ok(Visits {
