@@ -1,11 +1,11 @@
 -- When an actor may prepare, by what the board shows.
-use Rattle.std.proofs.Common.{ℕ, ◌<◌, ◌≡◌, ◌⊎◌, ◌==◌, ◌&&◌, ◌||◌, not, length, List, slice_index_or, Bool, true, false, Option, Some, None, inl, inr, arith, refl, sym, ap, ◌∙◌, true≢false}
+use Rattle.std.proofs.Common.{ℕ, ◌<◌, ◌≡◌, ◌⊎◌, ◌&&◌, ◌||◌, not, length, slice_index_or, Bool, true, false, Option, Some, None, inl, inr, refl, sym, ap, ◌∙◌, true≢false}
 use Rattle.std.specs.Prelude.{is_some, ltb, cond}
 use Rattle.std.proofs.lemmas.Bool.Decides.{Decides-eqb}
 use Rattle.pg_graph.specs.declared.edge.Side.{Side}
 use Rattle.pg_graph.specs.declared.edge.Side.TheVariants.{Source, Target}
 use Rattle.pg_graph.specs.declared.edge.Dir.{Dir}
-use Rattle.pg_graph.specs.Multigraph.{Multigraph, edge_at, end_at, side_at, is_at, edges_at, takes, opposite}
+use Rattle.pg_graph.specs.Multigraph.{Multigraph, edge_at, end_at, side_at, is_at, edges_at, takes}
 use Rattle.pg_graph.proofs.Numbers.{filter_numbers_each}
 use Rattle.pg_law.specs.declared.values.Datum.{Datum}
 use Rattle.pg_law.specs.Program.{Program}
@@ -25,7 +25,7 @@ use Rattle.pg_meals.specs.Carrying.{setting_of, core_by, IsKept}
 use Rattle.pg_meals.specs.Readied.{is_seen, sees_over, SeesEach, MissesOne}
 use Rattle.pg_meals.proofs.At.{false_test}
 use Rattle.pg_meals.proofs.Settings.{plain}
-use Rattle.pg_meals.proofs.Holding.{around_all, is_actor_of}
+use Rattle.pg_meals.proofs.Holding.{around_all}
 use Rattle.pg_meals.proofs.Seen.{fork_same, side_end}
 
 both_true : (x y : Bool) → (x && y) ≡ true → (x ≡ true) × (y ≡ true)

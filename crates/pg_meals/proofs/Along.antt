@@ -1,10 +1,9 @@
 -- What is summed over the list of the edges at a vertex is what is summed over all edges.
-use Rattle.std.proofs.Common.{ℕ, zero, suc, ◌<◌, ◌≤◌, ◌≡◌, ◌||◌, ◌==◌, ◌&&◌, not, length, List, [], ◌∷◌, ◌++◌, Bool, true, false, cond, Option, Some, None, arith, refl, sym, ap, subst, ◌∙◌, add-one, true≢false}
+use Rattle.std.proofs.Common.{ℕ, zero, suc, ◌<◌, ◌≤◌, ◌≡◌, ◌==◌, ◌&&◌, not, length, Bool, true, false, cond, Option, Some, None, arith, refl, sym, ap, subst, ◌∙◌, add-one}
 use Rattle.std.specs.Prelude.{fold, filter, is_some, IfSome}
 use Rattle.std.specs.List.{range_with_len}
 use Rattle.pg_graph.specs.declared.edge.Side.{Side}
-use Rattle.pg_graph.specs.declared.edge.Side.TheVariants.{Source, Target}
-use Rattle.pg_graph.specs.Multigraph.{Multigraph, edge_at, side_at, is_at, edges_at, takes}
+use Rattle.pg_graph.specs.Multigraph.{Multigraph, edge_at, side_at, is_at, takes}
 use Rattle.pg_graph.proofs.Numbers.{fold_filter_more}
 use Rattle.pg_law.specs.declared.values.Near.{Near}
 use Rattle.pg_law.specs.declared.values.Delta.{Delta}
@@ -16,7 +15,7 @@ use Rattle.pg_law.specs.Monoid.{IsCommutativeMonoid}
 use Rattle.pg_delta.specs.Deltas.{joined}
 use Rattle.pg_delta.proofs.Joining.{joined-nothing, joined_own}
 use Rattle.pg_meals.specs.Families.{total}
-use Rattle.pg_meals.specs.Shape.{Shape, at_end}
+use Rattle.pg_meals.specs.Shape.{at_end}
 use Rattle.pg_meals.specs.Serial.{gather_over}
 use Rattle.pg_meals.specs.Listed.{Cut, shape_of}
 use Rattle.pg_meals.specs.Sparing.{is_clear}

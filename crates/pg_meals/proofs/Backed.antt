@@ -1,6 +1,7 @@
 -- A board after a fork went back shows the core after it.
 use Rattle.std.proofs.Common.{ℕ, ◌<◌, ◌≡◌, ◌≢◌, ◌&&◌, length, List, slice_set, false, Option, Some, None, refl, sym, ap, ◌∙◌}
 use Rattle.std.proofs.lemmas.List.{get_or-set_same, get_or-set_other}
+use Rattle.pg_law.specs.declared.values.Datum.{Datum}
 use Rattle.pg_law.specs.declared.values.JournalEntry.{JournalEntry}
 use Rattle.pg_forks.specs.declared.fork_word.ForkWord.{ForkWord}
 use Rattle.pg_meals.specs.declared.fork.Fork.{Fork}
@@ -16,13 +17,14 @@ use Rattle.pg_meals.proofs.At.{false_test}
 use Rattle.pg_meals.proofs.ListReads.{read_as}
 use Rattle.pg_meals.proofs.Showing.{as_set, kept, other_grip, other_notes}
 
-module _ {A : Type 0} (w : ℕ) (seats : ℕ → Seat A) (forks : List (Fork A)) (replicas : ℕ → List Replica) (actors : List Actor) (turn : Option ℕ) (journal : List JournalEntry) (a e : ℕ) (r : Actor) (f : Fork A) (word : ForkWord)
+module _ {A : Type 0} (w : ℕ) (seats : ℕ → Seat A) (forks : List (Fork A)) (replicas : ℕ → List Replica) (actors : List Actor) (turn : Option ℕ) (journal : List JournalEntry) (a e : ℕ) (r : Actor) (f : Fork A) (word : ForkWord) (count : ℕ) (noted : Option Datum)
     (a_in : a < length actors) (e_in : e < length forks) (r_is : r ≡ actor_at actors a) (f_is : f ≡ fork_at w forks e) (mine : f.mark.pinner ≡ Some a) where
+  -- what is noted in a fork that nobody has pinned isn't shown
   abbrev x : Fork A
-  x = record { mark = record { word = word; pinner = None; taken = false; noted = None }; content = f.content; prepared = f.prepared }
+  x = record { mark = record { word = word; pinner = None; taken = false; noted = noted }; content = f.content; prepared = f.prepared }
 
   abbrev y : Actor
-  y = record { vertex = r.vertex; evidence = r.evidence; committed = r.committed; turn = r.turn; ready = None; before = r.before }
+  y = record r { ready = None; pinned = count }
 
   abbrev old : Core A
   old = core_from seats (fork_at w forks) replicas (actor_at actors) turn journal

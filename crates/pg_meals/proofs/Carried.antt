@@ -35,6 +35,7 @@ use Rattle.pg_delta.specs.declared.cell.CacheCell.{CacheCell}
 use Rattle.pg_meals.specs.Once.{is_among, Once}
 use Rattle.pg_meals.specs.Entries.{is_actor, no_seat, fork_at, seat_at, actor_at, replicas_at, replica_in}
 use Rattle.pg_meals.specs.Shown.{prepared_of}
+use Rattle.pg_meals.specs.Tallies.{IsTallied}
 use Rattle.pg_meals.specs.Boards.{IsBoard, Frame}
 use Rattle.pg_meals.specs.Carrying.{setting_of, core_by, IsKept, KeptCanAct, ActsCarry, HalvesCarry, StartIsKept}
 use Rattle.pg_meals.proofs.ListReads.{mark_same}
@@ -113,6 +114,7 @@ module _ {A C : Type 0} (p : Program A C) where
       replicas = kept.laid.replicas;
       once = kept.laid.once;
       room = kept.laid.room;
+      tallied = kept.laid.tallied;
       free = λ w e n. lone w e n (fork_at w b.forks.items e).mark.pinner refl;
       held = held_at;
       ready = all_pinned;
@@ -120,7 +122,7 @@ module _ {A C : Type 0} (p : Program A C) where
       inside = λ a v q. kept.stands.kept.clean.inside a v q;
     }
 
-  module _ (g : Multigraph) (s : Configuration) (b b' : Board A) (kept : IsKept p g s b) (frame : Frame b b') where
+  module _ (g : Multigraph) (s : Configuration) (b b' : Board A) (kept : IsKept p g s b) (frame : Frame b b') (tallied : IsTallied b') where
     setting_is : setting_of g s b' ≡ setting_of g s b
     setting_is = λ j. record {
       graph = g;
@@ -141,6 +143,7 @@ module _ {A C : Type 0} (p : Program A C) where
         replicas = frame.replicas ∙ kept.laid.replicas;
         once = λ v. subst Once (sym (frame.homes v)) (kept.laid.once v);
         room = subst (λ n. n ≤ vec_capacity b'.journal) (sym frame.fuel) (subst (λ n. b.fuel ≤ n) (sym frame.room) kept.laid.room);
+        tallied = tallied;
       };
       stands = subst (λ x. Stands p x (core_by p b')) (sym setting_is) stands;
     }
@@ -150,14 +153,14 @@ module _ {A C : Type 0} (p : Program A C) where
 
   module _ (law : IsLawful p) where
     pub acts_carry : ActsCarry p
-    acts_carry g s b a act b' out kept made frame =
-        kept_by g s b b' kept frame (acts_keep p law (setting_of g s b) kept.setting (core_by p b) a act (core_by p b') out kept.stands (made (any_word p) (any_datum p)))
+    acts_carry g s b a act b' out kept made frame tallied =
+        kept_by g s b b' kept frame tallied (acts_keep p law (setting_of g s b) kept.setting (core_by p b) a act (core_by p b') out kept.stands (made (any_word p) (any_datum p)))
 
     pub halves_carry : HalvesCarry p
-    halves_carry g s b a act b' out kept made frame =
+    halves_carry g s b a act b' out kept made frame tallied =
         let both = made (any_word p) (any_datum p) in
         let first = acts_keep p law (setting_of g s b) kept.setting (core_by p b) a (act 0) both.0 (out 0) kept.stands both.1 in
-        kept_by g s b b' kept frame (acts_keep p law (setting_of g s b) kept.setting both.0 a (act 1) (core_by p b') (out 1) first both.2)
+        kept_by g s b b' kept frame tallied (acts_keep p law (setting_of g s b) kept.setting both.0 a (act 1) (core_by p b') (out 1) first both.2)
 
     -- the ends of an edge have its worker in their spans
     cut_is : (g : Multigraph) (cut : Division) → IsMultigraph g → IsCutOf g cut → IsCut g (cut_in cut)
@@ -170,7 +173,7 @@ module _ {A C : Type 0} (p : Program A C) where
         let shown : AreReplicas p x (copies_in b) = λ v k h t l. copied (any_datum p) v k h (subst (λ (c : Cut). c.spans v k ≡ true) opened.placed t) l in
         record {
           setting = set;
-          laid = record { few = board.few; seats = board.seats; forks = board.forks; workers = board.workers; replicas = board.replicas; once = board.once; room = board.room };
+          laid = record { few = board.few; seats = board.seats; forks = board.forks; workers = board.workers; replicas = board.replicas; once = board.once; room = board.room; tallied = board.tallied };
           stands = stands_of p law x set (core_by p b) (subst (Invariant p (shape_in x) x.fuel (serial_of p s)) (sym (opened.core (any_word p) (any_datum p))) (opened_stands p law x set (copies_in b) shown cells own));
         }
       where
@@ -180,23 +183,23 @@ module _ {A C : Type 0} (p : Program A C) where
             ap (λ t. cond t (half_of h (replica_in (replicas_at b.replicas.items v) k).datum) 0) few ∙ ap (half_of h) (opened.copies d v k t)
 
     -- whatever act is made by name
-    pub named_carry : (g : Multigraph) (s : Configuration) (b b' : Board A) (a : ℕ) (act : NamedAct) (out : Told) → IsKept p g s b → MakesOn g b a act b' out → Frame b b' → IsKept p g s b'
-    named_carry g s b b' a (NamedClaim v) out kept made frame = acts_carry g s b a (Claim v) b' (told_of out 0) kept made frame
-    named_carry g s b b' a NamedDrop out kept made frame = acts_carry g s b a Drop b' (told_of out 0) kept made frame
-    named_carry g s b b' a (NamedLook e) out kept made frame = acts_carry g s b a (Look e) b' (told_of out 0) kept made frame
-    named_carry g s b b' a (NamedPin e) out kept made frame = acts_carry g s b a (Pin e) b' (told_of out 0) kept made frame
-    named_carry g s b b' a (NamedAsk e) out kept made frame = acts_carry g s b a (Ask e) b' (told_of out 0) kept made frame
-    named_carry g s b b' a (NamedBack e) out kept made frame = acts_carry g s b a (Back e) b' (told_of out 0) kept made frame
-    named_carry g s b b' a (NamedRead e) out kept made frame = halves_carry g s b a (ReadMirror e) b' (told_of out) kept made frame
-    named_carry g s b b' a NamedTurn out kept made frame = acts_carry g s b a Turn b' (told_of out 0) kept made frame
-    named_carry g s b b' a NamedCommit out kept made frame = acts_carry g s b a Commit b' (told_of out 0) kept made frame
-    named_carry g s b b' a NamedGive out kept made frame = acts_carry g s b a Give b' (told_of out 0) kept made frame
-    named_carry g s b b' a (NamedWrite k) out kept made frame = halves_carry g s b a (WriteMirror k) b' (told_of out) kept made frame
+    pub named_carry : (g : Multigraph) (s : Configuration) (b b' : Board A) (a : ℕ) (act : NamedAct) (out : Told) → IsKept p g s b → MakesOn g b a act b' out → Frame b b' → IsTallied b' → IsKept p g s b'
+    named_carry g s b b' a (NamedClaim v) out kept made frame tallied = acts_carry g s b a (Claim v) b' (told_of out 0) kept made frame tallied
+    named_carry g s b b' a NamedDrop out kept made frame tallied = acts_carry g s b a Drop b' (told_of out 0) kept made frame tallied
+    named_carry g s b b' a (NamedLook e) out kept made frame tallied = acts_carry g s b a (Look e) b' (told_of out 0) kept made frame tallied
+    named_carry g s b b' a (NamedPin e) out kept made frame tallied = acts_carry g s b a (Pin e) b' (told_of out 0) kept made frame tallied
+    named_carry g s b b' a (NamedAsk e) out kept made frame tallied = acts_carry g s b a (Ask e) b' (told_of out 0) kept made frame tallied
+    named_carry g s b b' a (NamedBack e) out kept made frame tallied = acts_carry g s b a (Back e) b' (told_of out 0) kept made frame tallied
+    named_carry g s b b' a (NamedRead e) out kept made frame tallied = halves_carry g s b a (ReadMirror e) b' (told_of out) kept made frame tallied
+    named_carry g s b b' a NamedTurn out kept made frame tallied = acts_carry g s b a Turn b' (told_of out 0) kept made frame tallied
+    named_carry g s b b' a NamedCommit out kept made frame tallied = acts_carry g s b a Commit b' (told_of out 0) kept made frame tallied
+    named_carry g s b b' a NamedGive out kept made frame tallied = acts_carry g s b a Give b' (told_of out 0) kept made frame tallied
+    named_carry g s b b' a (NamedWrite k) out kept made frame tallied = halves_carry g s b a (WriteMirror k) b' (told_of out) kept made frame tallied
 
     -- made or not
-    pub step_carries : (g : Multigraph) (s : Configuration) (b b' : Board A) (a : ℕ) (act : NamedAct) (o : Option Told) → IsKept p g s b → MatchOption o (b' ≡ b) (MakesOn g b a act b') → Frame b b' → IsKept p g s b'
-    step_carries g s b b' a act None kept made frame = subst (IsKept p g s) (sym made) kept
-    step_carries g s b b' a act (Some out) kept made frame = named_carry g s b b' a act out kept made frame
+    pub step_carries : (g : Multigraph) (s : Configuration) (b b' : Board A) (a : ℕ) (act : NamedAct) (o : Option Told) → IsKept p g s b → MatchOption o (b' ≡ b) (MakesOn g b a act b') → Frame b b' → IsTallied b' → IsKept p g s b'
+    step_carries g s b b' a act None kept made frame tallied = subst (IsKept p g s) (sym made) kept
+    step_carries g s b b' a act (Some out) kept made frame tallied = named_carry g s b b' a act out kept made frame tallied
 
   -- what caches that are handed in say
   pub deltas_of : (g : Multigraph) (cut : Division) (s : Configuration) (caches : Option (Vec (CacheCell A) Global)) → AreCaches p g cut s caches → is_some caches ≡ true → IsTrue p.keeps_deltas

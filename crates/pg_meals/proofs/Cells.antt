@@ -32,7 +32,8 @@ use Rattle.pg_meals.proofs.Pins.{other_other}
 use Rattle.pg_meals.proofs.Turns.{ends_differ}
 use Rattle.pg_meals.proofs.Entries.{at_end_is, at_end_none, at_end_in, sent_delta}
 use Rattle.pg_meals.proofs.Extending.{gather_like}
-use Rattle.pg_meals.proofs.Commit.{near_fits, fresh_fits, message_fits, given_fits, after_fits, exec_is, legal_next, replayed_next, clean_next, is_written, is_before, pins_yet, noted_next, all_ready, own_next, sent_next, delta_rides, delta_gone, value_else, value_here, cell_else, cell_here, datum_next, word_next, delta_next, acc_next, pending_next, old_in, new_in}
+use Rattle.pg_meals.proofs.Commit.{near_fits, fresh_fits, message_fits, given_fits, after_fits, exec_is, legal_next, replayed_next, clean_next, own_next, sent_next, delta_rides, delta_gone, value_else, value_here, cell_else, cell_here, datum_next, word_next, delta_next, acc_next, pending_next, old_in, new_in}
+use Rattle.pg_meals.proofs.Others.{is_written, is_before, pins_yet, noted_next, all_ready}
 
 module _ {A C : Type 0} (p : Program A C) (g : Shape) where
   module _ (fuel : ℕ) (opening : Serial) (speaks : IsLawful p) (plain : Graphlike g) (keeps : g.caches ≡ true → KeepsGathers p) (c : Core A) (a v : ℕ) (q : Prepared A)

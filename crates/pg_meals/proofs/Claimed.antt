@@ -1,26 +1,35 @@
 -- A board after a claim or a drop shows the core after it.
-use Rattle.std.proofs.Common.{ℕ, ◌<◌, ◌≡◌, ◌≢◌, ◌⊎◌, ◌==◌, ◌&&◌, length, List, slice_set, Bool, true, false, cond, Option, Some, None, inl, inr, refl, sym, ap, ◌∙◌, true≢false}
+use Rattle.std.proofs.Common.{ℕ, ◌<◌, ◌≡◌, ◌≢◌, ◌⊎◌, ◌==◌, ◌&&◌, length, List, slice_set, Bool, true, false, cond, Option, Some, None, inl, inr, refl, sym, ap, subst, ◌∙◌, true≢false}
 use Rattle.std.proofs.lemmas.Bool.Decides.{Decides-eqb}
+use Rattle.pg_graph.specs.Multigraph.{Multigraph}
 use Rattle.pg_law.specs.declared.values.Datum.{Datum}
 use Rattle.pg_law.specs.declared.values.JournalEntry.{JournalEntry}
 use Rattle.pg_meals.specs.declared.fork.Fork.{Fork}
 use Rattle.pg_meals.specs.declared.seat.Seat.{Seat}
 use Rattle.pg_meals.specs.declared.seat.Replica.{Replica}
 use Rattle.pg_meals.specs.declared.actor.Actor.{Actor}
+use Rattle.pg_meals.specs.declared.board.Board.{Board}
 use Rattle.pg_meals.specs.Families.{set_at}
 use Rattle.pg_meals.specs.Words.{Grip, empty_grip}
 use Rattle.pg_meals.specs.Core.{Core, empty_notes}
 use Rattle.pg_law.specs.Values.{two}
-use Rattle.pg_meals.specs.Entries.{is_actor, no_seat, idle, seat_at, actor_at}
+use Rattle.pg_meals.specs.Entries.{is_actor, no_seat, idle, fork_at, seat_at, actor_at}
+use Rattle.pg_meals.specs.Boards.{IsBoard}
 use Rattle.pg_meals.specs.Shown.{place_of, half_noted, written_of, grip_of, notes_of, core_from}
 use Rattle.pg_meals.proofs.At.{same_or_not, false_test}
 use Rattle.pg_meals.proofs.Marking.{prepared_like}
 use Rattle.pg_meals.proofs.ListReads.{read_set, read_as, read_like}
 
 -- whoever has no vertex in hand has pinned nothing
-pub pins_nothing : (a : ℕ) (o : Option ℕ) → ((b : ℕ) → o ≡ Some b → b ≡ a → ⊥) → is_actor a o ≡ false
+pins_nothing : (a : ℕ) (o : Option ℕ) → ((b : ℕ) → o ≡ Some b → b ≡ a → ⊥) → is_actor a o ≡ false
 pins_nothing a None n = refl
 pins_nothing a (Some b) n = false_test b a (n b refl)
+
+pub unpinned : {A : Type 0} (g : Multigraph) (b : Board A) → IsBoard g b → (a : ℕ) → (actor_at b.actors.items a).vertex ≡ None → (w e : ℕ) → is_actor a (fork_at w b.forks.items e).mark.pinner ≡ false
+unpinned g b board a none w e = pins_nothing a (fork_at w b.forks.items e).mark.pinner (λ o q r.
+    let there = (board.held w o e q).1 in
+    let nowhere = subst (λ k. (actor_at b.actors.items k).vertex ≡ None) (sym r) none in
+    cc)
 
 -- who hasn't committed has written nothing
 pub nothing_written : (o : Option ℕ) (replicas : ℕ → List Replica) (k h : ℕ) → written_of o false replicas k h ≡ false
@@ -30,7 +39,7 @@ nothing_written (Some v) replicas k h = refl
 module _ {A : Type 0} (d : Datum) (seats : List (Seat A)) (forks : ℕ → Fork A) (replicas : ℕ → List Replica) (actors : List Actor) (turn : Option ℕ) (journal : List JournalEntry) (a v : ℕ) (seat : Seat A) (holder has : Option ℕ) (evidence : Bool) (y : Actor)
     (a_in : a < length actors) (v_in : v < length seats) (is : seat ≡ seat_at d seats v) (y_is : y ≡ record idle { vertex = has; evidence = evidence }) (pins : (e : ℕ) → is_actor a (forks e).mark.pinner ≡ false) where
   abbrev x : Seat A
-  x = record { holder = holder; datum = seat.datum; message = seat.message; cell = seat.cell; prepared = seat.prepared }
+  x = record seat { holder = holder }
 
   cell_is : (u : ℕ) → (seat_at d (slice_set seats v x) u).prepared ≡ (seat_at d seats u).prepared
   cell_is u = read_like (λ (s : Seat A). s.prepared) seats v x u (no_seat d) v_in (ap (λ (s : Seat A). s.prepared) is)

@@ -1,12 +1,13 @@
 -- What is kept of a draft is what is prepared of the core.
-use Rattle.std.proofs.Common.{ℕ, ◌<◌, ◌≤◌, ◌≡◌, ◌⊎◌, ◌==◌, ◌||◌, length, List, Bool, true, false, cond, Option, Some, None, inl, inr, arith, refl, sym, ap, subst, ◌∙◌, true≢false}
-use Rattle.std.specs.Prelude.{ltb, map, Vec}
+use Rattle.std.proofs.Common.{ℕ, ◌<◌, ◌≤◌, ◌≡◌, ◌⊎◌, length, Bool, true, false, cond, Some, inl, inr, arith, refl, sym, ap, subst, ◌∙◌, true≢false}
+use Rattle.std.specs.Prelude.{ltb, Vec}
 use Rattle.std.specs.Vec.{vec_capacity}
 use Rattle.std.specs.declared.alloc.Global.{Global}
 use Rattle.std.proofs.lemmas.List.{length-set}
 use Rattle.std.proofs.lemmas.Bool.Decides.{nat_tests}
 use Rattle.pg_graph.specs.declared.edge.Side.{Side}
-use Rattle.pg_graph.specs.Multigraph.{Multigraph, edge_at, end_at, side_at, is_at, edges_at, takes}
+use Rattle.pg_graph.specs.Multigraph.{Multigraph, edge_at, side_at, is_at, edges_at}
+use Rattle.pg_law.specs.declared.values.JournalEntry.{JournalEntry}
 use Rattle.pg_law.specs.declared.values.Applied.{Applied}
 use Rattle.pg_law.specs.Program.{Program}
 use Rattle.pg_law.specs.Laws.{IsLawful}
@@ -14,10 +15,7 @@ use Rattle.pg_law.specs.Values.{two}
 use Rattle.pg_law.specs.Configuration.{Configuration}
 use Rattle.pg_delta.specs.declared.cell.CacheCell.{CacheCell}
 use Rattle.pg_meals.specs.declared.fork.Carried.{Carried}
-use Rattle.pg_meals.specs.declared.fork.Fork.{Fork}
 use Rattle.pg_meals.specs.declared.actor.Ready.{Ready}
-use Rattle.pg_meals.specs.declared.actor.Actor.{Actor}
-use Rattle.pg_meals.specs.declared.seat.Seat.{Seat}
 use Rattle.pg_meals.specs.declared.seat.Replica.{Replica}
 use Rattle.pg_meals.specs.declared.board.Board.{Board}
 use Rattle.pg_meals.specs.declared.preparing.Draft.{Draft}
@@ -28,16 +26,17 @@ use Rattle.pg_meals.specs.Once.{is_among}
 use Rattle.pg_meals.specs.Listed.{any_word, any_datum}
 use Rattle.pg_meals.specs.Preparing.{MayPrepare, content_after, near_noted, prepared_core}
 use Rattle.pg_meals.specs.Entries.{is_actor, fork_at, seat_at, actor_at, replicas_at, homes}
-use Rattle.pg_meals.specs.Shown.{shape_on, cut_of, content_of, core_from, core_of}
+use Rattle.pg_meals.specs.Shown.{shape_on, cut_of, content_of, core_from}
 use Rattle.pg_meals.specs.Carrying.{setting_of, core_by, IsKept}
 use Rattle.pg_meals.specs.Plans.{planned_over, near_over}
 use Rattle.pg_meals.specs.Boards.{Frame}
+use Rattle.pg_meals.specs.Tallies.{ArePinsCounted, AreStaleCounted, AreLastKept, IsTallied}
 use Rattle.pg_meals.specs.Setting.{Stands}
 use Rattle.pg_meals.specs.Readied.{IsReadied}
 use Rattle.pg_meals.specs.Prepares.{applied_on, prepared_on, PreparesOn, IsDraft}
 use Rattle.pg_meals.proofs.At.{some_of}
 use Rattle.pg_meals.proofs.Gathers.{below_or_past}
-use Rattle.pg_meals.proofs.Holding.{is_actor_of, pins_are, at_is}
+use Rattle.pg_meals.proofs.Holding.{pins_are, at_is}
 use Rattle.pg_meals.proofs.Seen.{fork_same, side_end}
 use Rattle.pg_meals.proofs.Plans.{planned_content}
 use Rattle.pg_meals.proofs.Along.{at_end_test}
@@ -45,6 +44,7 @@ use Rattle.pg_meals.proofs.Due.{seat_same, near_is}
 use Rattle.pg_meals.proofs.Readied.{ready_shows}
 use Rattle.pg_meals.proofs.Settings.{preparing_keeps}
 use Rattle.pg_meals.proofs.Carried.{kept_by}
+use Rattle.pg_meals.proofs.Tallied.{pins_actor, pins_forks, planned_pinner, stale_actor, last_seat}
 
 module _ {A C : Type 0} (p : Program A C) (law : IsLawful p) (g : Multigraph) (s : Configuration) (b : Board A) (kept : IsKept p g s b) (a v m : ℕ) (may : MayPrepare p (shape_on g b) (core_by p b) a v m) where
   abbrev shape : Shape
@@ -133,7 +133,16 @@ readied_frame g b b' a v ready cell plan is = record {
   actors = ap length is.actors ∙ length-set _ _ _;
 }
 
+-- and what it counts is true
+pub readied_tallied : {A : Type 0} (g : Multigraph) (b b' : Board A) (a v : ℕ) (ready : Ready) (cell : CacheCell A) (plan : ℕ → Carried A) → a < length b.actors.items → v < length b.seats.items
+    → IsReadied g b a v ready cell plan b' → IsTallied b → IsTallied b'
+readied_tallied g b b' a v ready cell plan a_in v_in is tallied = record {
+  pinned = subst (ArePinsCounted b'.forks.items) (sym is.actors) (pins_actor b'.forks.items b.actors.items (pins_forks b.forks.items b.actors.items tallied.pinned b'.forks.items is.count (planned_pinner b.forks.items b'.forks.items plan (edges_at g v) is.forks)) a _ a_in refl);
+  stale = subst (λ (x : Vec (Vec Replica Global) Global). AreStaleCounted x.items b'.actors.items) (sym is.replicas) (subst (AreStaleCounted b.replicas.items) (sym is.actors) (stale_actor b.replicas.items b.actors.items tallied.stale a _ a_in (tallied.stale a)));
+  last = subst (λ (x : Vec JournalEntry Global). AreLastKept b'.seats.items x.items) (sym is.journal) (subst (λ xs. AreLastKept xs b.journal.items) (sym is.seats) (last_seat b.seats.items b.journal.items tallied.last v _ v_in refl));
+}
+
 -- a board that has prepared keeps its promise
-pub prepare_carries : {A C : Type 0} (p : Program A C) → IsLawful p → (g : Multigraph) (s : Configuration) (b b' : Board A) (a : ℕ) → IsKept p g s b → PreparesOn p g b a b' → Frame b b' → IsKept p g s b'
-prepare_carries p law g s b b' a kept made frame =
-    kept_by p g s b b' kept frame (subst (Stands p (setting_of g s b)) (sym made.3) (preparing_keeps p law (setting_of g s b) kept.setting (core_by p b) a made.0 made.1 kept.stands made.2))
+pub prepare_carries : {A C : Type 0} (p : Program A C) → IsLawful p → (g : Multigraph) (s : Configuration) (b b' : Board A) (a : ℕ) → IsKept p g s b → PreparesOn p g b a b' → Frame b b' → IsTallied b' → IsKept p g s b'
+prepare_carries p law g s b b' a kept made frame tallied =
+    kept_by p g s b b' kept frame tallied (subst (Stands p (setting_of g s b)) (sym made.3) (preparing_keeps p law (setting_of g s b) kept.setting (core_by p b) a made.0 made.1 kept.stands made.2))

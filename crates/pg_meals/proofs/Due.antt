@@ -1,9 +1,8 @@
 -- What a board shows to an actor that may prepare.
-use Rattle.std.proofs.Common.{ℕ, ◌<◌, ◌≤◌, ◌≡◌, ◌⊎◌, ◌==◌, ◌&&◌, ◌||◌, not, length, List, slice_index_or, Bool, true, false, cond, Option, Some, None, inl, inr, arith, refl, sym, ap, subst, ◌∙◌, true≢false}
-use Rattle.std.specs.Prelude.{is_some, IfSome}
+use Rattle.std.proofs.Common.{ℕ, ◌<◌, ◌≡◌, ◌⊎◌, length, true, cond, Option, Some, None, arith, sym, ap, subst, ◌∙◌}
+use Rattle.std.specs.Prelude.{is_some}
 use Rattle.std.proofs.lemmas.List.{get_or_default}
-use Rattle.pg_graph.specs.declared.edge.Side.{Side}
-use Rattle.pg_graph.specs.Multigraph.{Multigraph, edge_at, edge_info, end_at, side_at, is_at, edges_at, opposite, takes}
+use Rattle.pg_graph.specs.Multigraph.{Multigraph, edge_at, end_at, side_at, is_at, edges_at, opposite, takes}
 use Rattle.pg_graph.proofs.Stored.{edge_known}
 use Rattle.pg_law.specs.declared.values.Datum.{Datum}
 use Rattle.pg_law.specs.declared.values.Near.{Near}
@@ -19,7 +18,6 @@ use Rattle.pg_delta.specs.declared.cell.CacheCell.{CacheCell}
 use Rattle.pg_delta.specs.Cell.{IsCell}
 use Rattle.pg_delta.specs.Deltas.{joined}
 use Rattle.pg_meals.specs.declared.fork.Fork.{Fork}
-use Rattle.pg_meals.specs.declared.seat.Seat.{Seat}
 use Rattle.pg_meals.specs.declared.board.Board.{Board}
 use Rattle.pg_meals.specs.Families.{total}
 use Rattle.pg_meals.specs.Shape.{Shape}
@@ -28,8 +26,8 @@ use Rattle.pg_meals.specs.Core.{Core}
 use Rattle.pg_meals.specs.Standing.{stands, message_at, delta_at, waiting}
 use Rattle.pg_meals.specs.Preparing.{MayPrepare, near_noted, noted_datum, gather_noted}
 use Rattle.pg_meals.specs.Listed.{any_word, any_datum, serial_of}
-use Rattle.pg_meals.specs.Entries.{is_actor, at_side, no_fork, no_seat, fork_at, seat_at}
-use Rattle.pg_meals.specs.Shown.{shape_on, cut_of, content_of, half_noted, noted_by}
+use Rattle.pg_meals.specs.Entries.{at_side, no_seat, fork_at, seat_at}
+use Rattle.pg_meals.specs.Shown.{shape_on, cut_of, content_of, half_noted}
 use Rattle.pg_meals.specs.StandsFor.{IsContent}
 use Rattle.pg_meals.specs.Carrying.{setting_of, core_by, IsKept}
 use Rattle.pg_meals.specs.Sparing.{has_gather, cost, gather_degree}

@@ -48,15 +48,15 @@ module _ {A : Type 0} where
       go (inr d) = rw (false_test o a d) refl
 
 module _ {A : Type 0} (w : ℕ) (d : Datum) (seats : List (Seat A)) (forks after : List (Fork A)) (rows : List (Vec Replica Global)) (actors : List Actor) (turn : Option ℕ) (journal : List JournalEntry)
-    (a v : ℕ) (es : List ℕ) (r : Actor) (q : Ready) (seat : Seat A) (cell spare : CacheCell A) (row : Vec Replica Global)
+    (a v : ℕ) (es : List ℕ) (r : Actor) (q : Ready) (seat : Seat A) (cell spare : CacheCell A) (row : Vec Replica Global) (last stale : ℕ)
     (a_in : a < length actors) (v_in : v < length seats) (row_in : v < length rows) (r_is : r ≡ actor_at actors a) (seat_is : seat ≡ seat_at d seats v) (cell_is : cell ≡ seat.prepared)
     (swapped : AreExchanged forks es after) (row_is : row.items ≡ map made_stale (replicas_at rows v)) (among : (e : ℕ) → is_among e es ≡ is_actor a (fork_at w forks e).mark.pinner)
     (busy : (actor_at actors a).vertex ≡ Some v) (ready : (actor_at actors a).ready ≡ Some q) (alone : (b : ℕ) → (actor_at actors b).vertex ≡ Some v → b ≡ a) where
   abbrev x : Seat A
-  x = record { holder = seat.holder; datum = q.datum; message = q.again; cell = cell; prepared = spare }
+  x = record { holder = seat.holder; datum = q.datum; message = q.again; cell = cell; prepared = spare; last = last }
 
   abbrev y : Actor
-  y = record { vertex = r.vertex; evidence = r.evidence; committed = true; turn = r.turn; ready = None; before = seat.datum }
+  y = record r { committed = true; ready = None; before = seat.datum; stale = stale }
 
   abbrev was : ℕ → Fork A
   was = fork_at w forks

@@ -1,27 +1,12 @@
 -- The signalled vertex of least rank among those that were looked at.
-use Rattle.std.proofs.Common.{ℕ, ◌+◌, ◌<◌, ◌≤◌, ◌≡◌, ◌⊎◌, ◌==◌, ltb, length, List, slice_index_or, Bool, true, false, cond, Option, Some, None, inl, inr, take, arith, refl, sym, ap, subst, ◌∙◌, true≢false}
+use Rattle.std.proofs.Common.{ℕ, ◌+◌, ◌<◌, ◌≤◌, ◌≡◌, ◌⊎◌, ltb, Bool, true, false, cond, Option, Some, None, inl, inr, arith, refl, sym, ap, subst, ◌∙◌, true≢false}
 use Rattle.std.specs.Prelude.{MatchOption}
 use Rattle.std.proofs.lemmas.Bool.Decides.{nat_tests}
-use Rattle.std.proofs.lemmas.List.{take_more, length-take-le}
-use Rattle.pg_law.specs.declared.values.JournalEntry.{JournalEntry}
 use Rattle.pg_meals.specs.declared.board.Board.{Board}
 use Rattle.pg_meals.specs.declared.ranking.Ranked.{Ranked}
 use Rattle.pg_graph.specs.Multigraph.{Multigraph}
 use Rattle.pg_meals.specs.Ranks.{Before, last_entry}
-use Rattle.pg_meals.proofs.Turns.{last_from-append}
 use Rattle.pg_meals.specs.Least.{IsAwaited, IsQuiet, IsLeastBelow, AllQuiet, lesser}
-
--- one more entry
-pub entry_more : (xs : List JournalEntry) (n v : ℕ) (d : JournalEntry) → n < length xs
-    → last_entry (take (n + 1) xs) v ≡ cond ((slice_index_or xs n d).vertex == v) (n + 1) (last_entry (take n xs) v)
-entry_more xs n v d i =
-    ap (λ ys. last_entry ys v) (take_more xs n d i)
-    ∙ (last_from-append 0 0 (take n xs) (slice_index_or xs n d) v
-    ∙ ap (λ k. cond ((slice_index_or xs n d).vertex == v) k (last_entry (take n xs) v)) (omega (arith, length-take-le n xs (omega (arith, i)))))
-
--- which may be of the vertex
-pub entry_step : (xs : List JournalEntry) (n v x l : ℕ) (d : JournalEntry) (b : Bool) → n < length xs → ((slice_index_or xs n d).vertex == v) ≡ b → x ≡ cond b (n + 1) l → l ≡ last_entry (take n xs) v → x ≡ last_entry (take (n + 1) xs) v
-entry_step xs n v x l d b i t is before = is ∙ ((λ j. cond (sym t j) (n + 1) (before j)) ∙ sym (entry_more xs n v d i))
 
 below_more : (w n : ℕ) → w < n + 1 → (w < n) ⊎ (w ≡ n)
 below_more w n i = grind arith

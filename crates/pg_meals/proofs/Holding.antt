@@ -1,4 +1,4 @@
--- An actor that has pinned each fork of the list around its vertex has pinned all forks of its vertex.
+-- The forks of a vertex, and which of them an actor has pinned.
 use Rattle.std.proofs.Common.{ℕ, zero, suc, ◌<◌, ◌≡◌, ◌≢◌, ◌⊎◌, ◌==◌, ◌||◌, List, [], ◌∷◌, ◌++◌, length, slice_index_or, Bool, true, false, cond, Option, Some, None, inl, inr, arith, refl, sym, ap, subst, ◌∙◌, add-one, true≢false}
 use Rattle.std.specs.Prelude.{filter}
 use Rattle.std.specs.List.{range_with_len, AllByRecursion}
@@ -7,12 +7,16 @@ use Rattle.pg_graph.specs.declared.edge.Side.{Side}
 use Rattle.pg_graph.specs.declared.edge.Side.TheVariants.{Source, Target}
 use Rattle.pg_graph.specs.Multigraph.{Multigraph, IsMultigraph, edge_at, end_at, is_at, edges_at}
 use Rattle.pg_graph.proofs.Numbers.{filter_numbers_more, filter_numbers_each}
-use Rattle.pg_meals.specs.Entries.{is_actor}
+use Rattle.pg_meals.specs.declared.board.Board.{Board}
+use Rattle.pg_meals.specs.Entries.{is_actor, no_fork, fork_at, actor_at}
+use Rattle.pg_meals.specs.Tallies.{pins_among}
+use Rattle.pg_meals.specs.Boards.{IsBoard}
 use Rattle.std.proofs.lemmas.List.Elements.{recursion_from_All}
 use Rattle.pg_meals.specs.Once.{is_among}
 use Rattle.pg_meals.proofs.Distinct.{IsIn}
 use Rattle.pg_meals.proofs.Around.{either_end, edges_have}
-use Rattle.pg_meals.proofs.At.{same_or_not, false_test}
+use Rattle.pg_meals.proofs.At.{same_or_not, false_test, some_of}
+use Rattle.pg_meals.proofs.Counts.{count_places, Within, within_fewer, within_all}
 
 all_left : (P : ℕ → Type 0) (xs ys : List ℕ) → AllByRecursion P (xs ++ ys) → AllByRecursion P xs
 all_left P [] ys k = tt
@@ -58,15 +62,36 @@ pub is_actor_of : (a : ℕ) (o : Option ℕ) → is_actor a o ≡ true → o ≡
 is_actor_of a None q = absurd (true≢false (sym q))
 is_actor_of a (Some b) q = ap Some ((Decides-eqb b a).0 q)
 
--- where not one of them is missing, none lacks
-pub not_lacking : (P : ℕ → Type 0) (g : Multigraph) (v : ℕ) → ((s : Side) (e : ℕ) → e < length g.edges → end_at g s e ≡ v → P e) → (i : ℕ) → i < length (edges_at g v) → P (slice_index_or (edges_at g v) i 0)
-not_lacking P g v all i l =
-    let k = filter_numbers_each (λ e. is_at v (edge_at g e)) (length g.edges) i 0 l in
-    go (slice_index_or (edges_at g v) i 0) k.0 (either_end (end_at g Source (slice_index_or (edges_at g v) i 0)) (end_at g Target (slice_index_or (edges_at g v) i 0)) v k.1)
-  where
-    go : (e : ℕ) → e < length g.edges → (end_at g Source e ≡ v) ⊎ (end_at g Target e ≡ v) → P e
-    go e i (inl q) = all Source e i q
-    go e i (inr q) = all Target e i q
+-- an actor that has pinned as many forks as its vertex has edges has pinned all of them
+module _ {A : Type 0} (g : Multigraph) (b : Board A) (board : IsBoard g b) (a v w : ℕ) (busy : (actor_at b.actors.items a).vertex ≡ Some v) where
+  abbrev pins : ℕ → Bool
+  pins e = is_actor a (fork_at w b.forks.items e).mark.pinner
+
+  abbrev at_v : ℕ → Bool
+  at_v e = is_at v (edge_at g e)
+
+  abbrev PinsAround : Type 0
+  PinsAround = (s : Side) (e : ℕ) → e < length g.edges → end_at g s e ≡ v → pins e ≡ true
+
+  counted : pins_among a b.forks.items ≡ length (filter pins (range_with_len 0 (length g.edges)))
+  counted = count_places (λ x. is_actor a x.mark.pinner) b.forks.items (no_fork w) ∙ ap (λ n. length (filter pins (range_with_len 0 n))) board.forks
+
+  pinned_here : Within pins at_v (length g.edges)
+  pinned_here e i t = let held = board.held w a e (is_actor_of a (fork_at w b.forks.items e).mark.pinner t) in at_is g (fork_at w b.forks.items e).mark.word.side e v (some_of _ v (sym held.1 ∙ busy))
+
+  pub pins_all : pins_among a b.forks.items ≡ length (edges_at g v) → PinsAround
+  pins_all as_many s e i at = within_all pins at_v (length g.edges) pinned_here (sym counted ∙ as_many) e i (at_is g s e v at)
+
+  -- and the other way round
+  pub as_many_pins : PinsAround → pins_among a b.forks.items ≡ length (edges_at g v)
+  as_many_pins all = omega (arith, counted, within_fewer pins at_v (length g.edges) pinned_here, within_fewer at_v pins (length g.edges) here_pinned)
+    where
+      either : (e : ℕ) → e < length g.edges → (end_at g Source e ≡ v) ⊎ (end_at g Target e ≡ v) → pins e ≡ true
+      either e i (inl q) = all Source e i q
+      either e i (inr q) = all Target e i q
+
+      here_pinned : Within at_v pins (length g.edges)
+      here_pinned e i t = either e i (either_end (end_at g Source e) (end_at g Target e) v t)
 
 -- the ends of an edge are vertices
 pub end_in : (g : Multigraph) → IsMultigraph g → (s : Side) (e : ℕ) → e < length g.edges → end_at g s e < length g.ids

@@ -19,20 +19,24 @@ use Rattle.pg_cut.specs.WorkerSet.{all_workers}
 use Rattle.pg_cut.specs.ByWorker.{lists_in}
 use Rattle.pg_cut.specs.Cut.{Division, IsCutOf, in_span, span_of, span_in}
 use Rattle.pg_meals.specs.declared.fork.Fork.{Fork}
+use Rattle.pg_meals.specs.declared.seat.Seat.{Seat}
 use Rattle.pg_meals.specs.declared.seat.Replica.{Replica}
 use Rattle.pg_meals.specs.declared.actor.Actor.{Actor}
 use Rattle.pg_meals.specs.declared.board.Board.{Board}
 use Rattle.pg_meals.specs.Core.{Content}
 use Rattle.pg_meals.specs.Setting.{cell_at}
+use Rattle.pg_meals.specs.Ranks.{last_entry}
 use Rattle.pg_meals.specs.Once.{is_among, Once}
 use Rattle.pg_meals.specs.Entries.{at_side, is_actor, idle, no_load, no_fork, no_seat, fork_at, seat_at, actor_at, replicas_at, replica_in, homes}
 use Rattle.pg_meals.specs.Shown.{content_of, place_of, notes_of}
+use Rattle.pg_meals.specs.Tallies.{left_to_write, IsTallied}
 use Rattle.pg_meals.specs.Boards.{IsBoard}
 use Rattle.pg_meals.specs.Opening.{new_fork, fork_on, new_seat, seat_on, copy_of, row_on}
 use Rattle.pg_meals.specs.Opened.{copies_in, IsOpened}
 use Rattle.pg_meals.proofs.At.{false_test}
 use Rattle.pg_meals.proofs.Gathers.{below_or_past}
 use Rattle.pg_meals.proofs.Distinct.{IsNot, Distinct}
+use Rattle.pg_meals.proofs.Tallied.{pins_zero}
 use Rattle.pg_meals.proofs.Around.{distinct_numbers}
 
 -- lists without repeats
@@ -175,6 +179,13 @@ module _ {A : Type 0} (g : Multigraph) (cut : Division) (s : Configuration) (cel
   none_some : {X : Type 0} (o : Option X) (x : X) → o ≡ None → o ≡ Some x → ⊥
   none_some {X} o x n q = let two : ◌≡◌ {A = Option X} None (Some x) = sym n ∙ q in cc
 
+  tallied : IsTallied b
+  tallied = record {
+    pinned = λ a. ap (λ (x : Actor). x.pinned) (actor_is a) ∙ sym (pins_zero b.forks.items a 0 (λ e. ap (is_actor a) (free 0 e)));
+    stale = λ a. ap (λ (x : Actor). x.stale) (actor_is a) ∙ ap (λ (x : Actor). left_to_write x.vertex x.committed (replicas_at b.replicas.items)) (sym (actor_is a));
+    last = λ v. ap (λ (x : Seat A). x.last) (seat_is (two 0 0) v) ∙ ap (λ xs. last_entry xs v) (sym journal_is);
+  }
+
   pub is_board : IsBoard g b
   is_board = record {
     few = graph.vertex_count;
@@ -184,6 +195,7 @@ module _ {A : Type 0} (g : Multigraph) (cut : Division) (s : Configuration) (cel
     replicas = sym (length-map b.replicas.items (λ (r : Vec Replica Global). r.items)) ∙ (ap length rows_are ∙ (length-map-range_with_len (row_on cut s.values) 0 (length s.values) ∙ values));
     once = λ v. subst Once (sym (homes_are v)) (span_is_once v (below_or_past v (length s.values)));
     room = room;
+    tallied = tallied;
     free = λ w e n. free w e;
     held = λ w a e q. absurd (none_some _ a (free w e) q);
     ready = λ w a v e s x q. absurd (none_some _ x (ap (λ (y : Actor). y.ready) (actor_is a)) q);

@@ -4,6 +4,7 @@ pub mod Distinct
 pub mod Claims
 pub mod Pins
 pub mod Turns
+pub mod Counts
 pub mod Totals
 pub mod Deltas
 pub mod Lawful
@@ -13,6 +14,7 @@ pub mod Rows
 pub mod Signals
 pub mod Extending
 pub mod Commit
+pub mod Others
 pub mod Cells
 pub mod Prepare
 pub mod Steps
@@ -42,6 +44,7 @@ pub mod Initial
 pub mod Exchanged
 pub mod Staled
 pub mod Entered
+pub mod Tallied
 pub mod Carried
 pub mod Chosen
 pub mod Firsts

@@ -24,6 +24,14 @@ read_any [] i d k l = absurd (omega arith)
 read_any (x ∷ xs) zero d k l = refl
 read_any (x ∷ xs) (suc i) d k l = read_any xs i d k (omega arith)
 
+-- what holds of each entry holds of each after a write, where it holds of the new one
+pub each_set : {X : Type 0} (P : ℕ → X → Type 0) (xs : List X) (i : ℕ) (x d : X) → i < length xs → P i x → ((j : ℕ) → j ≢ i → P j (slice_index_or xs j d)) → (j : ℕ) → P j (slice_index_or (slice_set xs i x) j d)
+each_set P xs i x d l here there j = go (same_or_not j i)
+  where
+    go : (j ≡ i) ⊎ (j ≢ i) → P j (slice_index_or (slice_set xs i x) j d)
+    go (inl q) = subst (λ k. P k (slice_index_or (slice_set xs i x) k d)) (sym q) (subst (P i) (sym (get_or-set_same xs i x d l)) here)
+    go (inr n) = subst (P j) (sym (get_or-set_other xs i j x d n)) (there j n)
+
 -- a part of the entries of a list after a write: set where it was written, or as before
 pub read_as : {X Y : Type 0} (f : X → Y) (xs : List X) (i : ℕ) (x : X) (j : ℕ) (d : X) → i < length xs → f (slice_index_or (slice_set xs i x) j d) ≡ set_at (λ k. f (slice_index_or xs k d)) i (f x) j
 read_as f xs i x j d l = ap f (read_set xs i x j d l) ∙ go (j == i)

@@ -36,10 +36,10 @@ module _ {A : Type 0} (w : ℕ) (seats : ℕ → Seat A) (forks : List (Fork A))
   abbrev old : Core A
   old = core_from seats (fork_at w forks) replicas (actor_at actors) turn journal
 
-  -- the evidence of one actor
-  module _ (a : ℕ) (r : Actor) (evidence : Bool) (a_in : a < length actors) (is : r ≡ actor_at actors a) where
+  -- the evidence of one actor, and how many forks it has counted
+  module _ (a : ℕ) (r : Actor) (evidence : Bool) (count : ℕ) (a_in : a < length actors) (is : r ≡ actor_at actors a) where
     abbrev y : Actor
-    y = record { vertex = r.vertex; evidence = evidence; committed = r.committed; turn = r.turn; ready = r.ready; before = r.before }
+    y = record r { evidence = evidence; pinned = count }
 
     abbrev shown : Core A
     shown = core_from seats (fork_at w forks) replicas (actor_at (slice_set actors a y)) turn journal
@@ -82,7 +82,7 @@ module _ {A : Type 0} (w : ℕ) (seats : ℕ → Seat A) (forks : List (Fork A))
   -- the turn of one actor
   module _ (a : ℕ) (r : Actor) (holds : Bool) (word : Option ℕ) (a_in : a < length actors) (is : r ≡ actor_at actors a) where
     abbrev turned : Actor
-    turned = record { vertex = r.vertex; evidence = r.evidence; committed = r.committed; turn = holds; ready = r.ready; before = r.before }
+    turned = record r { turn = holds }
 
     abbrev turn_shown : Core A
     turn_shown = core_from seats (fork_at w forks) replicas (actor_at (slice_set actors a turned)) word journal
@@ -152,7 +152,7 @@ module _ {A : Type 0} (w : ℕ) (seats : ℕ → Seat A) (forks : List (Fork A))
     }
 
   -- one actor pins one fork
-  module _ (a e : ℕ) (r : Actor) (f : Fork A) (word : ForkWord) (taken evidence : Bool) (a_in : a < length actors) (e_in : e < length forks) (r_is : r ≡ actor_at actors a) (f_is : f ≡ fork_at w forks e)
+  module _ (a e : ℕ) (r : Actor) (f : Fork A) (word : ForkWord) (taken evidence : Bool) (count : ℕ) (a_in : a < length actors) (e_in : e < length forks) (r_is : r ≡ actor_at actors a) (f_is : f ≡ fork_at w forks e)
       (lone : f.mark.pinner ≡ None) (unready : (x : Ready) → (actor_at actors a).ready ≡ Some x → ⊥) where
     abbrev mark : Mark
     mark = record { word = word; pinner = Some a; taken = taken; noted = None }
@@ -164,7 +164,7 @@ module _ {A : Type 0} (w : ℕ) (seats : ℕ → Seat A) (forks : List (Fork A))
     after = fork_at w (slice_set forks e pinned_fork)
 
     abbrev record_of : Actor
-    record_of = record { vertex = r.vertex; evidence = evidence; committed = r.committed; turn = r.turn; ready = r.ready; before = r.before }
+    record_of = record r { evidence = evidence; pinned = count }
 
     kept : {Y : Type 0} (part_of : Fork A → Y) (k : ℕ) → part_of pinned_fork ≡ part_of f → part_of (after k) ≡ part_of (fork_at w forks k)
     kept part_of k same = read_like part_of forks e pinned_fork k (no_fork w) e_in (same ∙ ap part_of f_is)
@@ -225,7 +225,7 @@ module _ {A : Type 0} (w : ℕ) (seats : ℕ → Seat A) (forks : List (Fork A))
       content = λ k. kept (λ (x : Fork A). content_of x.content) k refl j;
       place = old.place;
       replica = old.replica;
-      notes = λ b. (look_notes a r evidence a_in r_is after b (same_or_not b a) ∙ notes_kept b) j;
+      notes = λ b. (look_notes a r evidence count a_in r_is after b (same_or_not b a) ∙ notes_kept b) j;
     }
       where
         notes_kept : (b : ℕ) → notes_of b (actor_at actors b) after seats replicas ≡ old.notes b

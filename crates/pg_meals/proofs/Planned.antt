@@ -1,5 +1,5 @@
 -- Forks for which something is prepared, one after another.
-use Rattle.std.proofs.Common.{ℕ, ◌<◌, ◌+◌, ◌≡◌, ◌≢◌, ◌⊎◌, ◌==◌, length, take, List, slice_index_or, slice_set, true, false, cond, inl, inr, refl, sym, ap, ◌∙◌, add-one}
+use Rattle.std.proofs.Common.{ℕ, ◌<◌, ◌+◌, ◌≡◌, ◌≢◌, ◌⊎◌, ◌==◌, length, take, List, slice_index_or, slice_set, true, false, cond, inl, inr, sym, ap, ◌∙◌, add-one}
 use Rattle.std.proofs.lemmas.Bool.Decides.{Decides-eqb}
 use Rattle.pg_meals.specs.declared.fork.Fork.{Fork}
 use Rattle.pg_meals.specs.declared.fork.Carried.{Carried}

@@ -1,11 +1,9 @@
 -- What is planned of a board is what is prepared of the core that it shows.
-use Rattle.std.proofs.Common.{ℕ, ◌<◌, ◌≡◌, ◌==◌, length, List, Bool, true, false, cond, Option, Some, None, refl, sym, ap, ◌∙◌}
-use Rattle.std.specs.Prelude.{ltb}
+use Rattle.std.proofs.Common.{ℕ, ◌≡◌, Bool, true, false, cond, Option, Some, None, refl}
 use Rattle.pg_graph.specs.declared.edge.Side.{Side}
 use Rattle.pg_graph.specs.declared.edge.Side.TheVariants.{Source, Target}
 use Rattle.pg_graph.specs.Multigraph.{opposite, takes}
 use Rattle.pg_law.specs.declared.values.Datum.{Datum}
-use Rattle.pg_law.specs.declared.values.Delta.{Delta}
 use Rattle.pg_law.specs.declared.values.Delta.TheVariants.{Nothing}
 use Rattle.pg_law.specs.declared.values.Scattered.{Scattered}
 use Rattle.pg_law.specs.Program.{Program}
@@ -16,7 +14,7 @@ use Rattle.pg_meals.specs.declared.fork.Ride.{Ride}
 use Rattle.pg_meals.specs.declared.fork.Carried.{Carried}
 use Rattle.pg_meals.specs.Shape.{Shape}
 use Rattle.pg_meals.specs.Serial.{or_zero}
-use Rattle.pg_meals.specs.Core.{Content, by_side}
+use Rattle.pg_meals.specs.Core.{by_side}
 use Rattle.pg_meals.specs.Preparing.{content_sent, content_kept, content_after}
 use Rattle.pg_meals.specs.Entries.{at_side}
 use Rattle.pg_meals.specs.Shown.{content_of, half_noted}

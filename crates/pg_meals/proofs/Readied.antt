@@ -56,10 +56,10 @@ module _ {A : Type 0} (w : ℕ) (d : Datum) (seats : List (Seat A)) (forks after
     (planned : ArePlanned forks plan es after) (among : (e : ℕ) → is_among e es ≡ is_actor a (fork_at w forks e).mark.pinner)
     (busy : (actor_at actors a).vertex ≡ Some v) (alone : (b : ℕ) → (actor_at actors b).vertex ≡ Some v → b ≡ a) where
   abbrev x : Seat A
-  x = record { holder = seat.holder; datum = seat.datum; message = seat.message; cell = seat.cell; prepared = cell }
+  x = record seat { prepared = cell }
 
   abbrev y : Actor
-  y = record { vertex = r.vertex; evidence = r.evidence; committed = r.committed; turn = r.turn; ready = Some q; before = r.before }
+  y = record r { ready = Some q }
 
   abbrev was : ℕ → Fork A
   was = fork_at w forks

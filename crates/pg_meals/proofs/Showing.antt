@@ -1,14 +1,15 @@
 -- Entries that change in a board, and what actors hold of the others.
-use Rattle.std.proofs.Common.{ℕ, ◌<◌, ◌≡◌, ◌≢◌, ◌⊎◌, ◌==◌, ◌&&◌, length, List, slice_set, true, false, cond, None, inl, inr, refl, sym, ap, ◌∙◌}
+use Rattle.std.proofs.Common.{ℕ, ◌<◌, ◌≡◌, ◌≢◌, ◌⊎◌, ◌==◌, ◌&&◌, length, List, slice_set, true, false, cond, Option, None, inl, inr, refl, sym, ap, ◌∙◌}
 use Rattle.std.proofs.lemmas.Bool.Decides.{Decides-eqb}
+use Rattle.pg_law.specs.declared.values.JournalEntry.{JournalEntry}
 use Rattle.pg_meals.specs.declared.fork.Fork.{Fork}
 use Rattle.pg_meals.specs.declared.seat.Seat.{Seat}
 use Rattle.pg_meals.specs.declared.seat.Replica.{Replica}
 use Rattle.pg_meals.specs.declared.actor.Actor.{Actor}
 use Rattle.pg_meals.specs.Families.{set_at}
-use Rattle.pg_meals.specs.Core.{empty_content}
-use Rattle.pg_meals.specs.Entries.{is_actor, no_fork, fork_at}
-use Rattle.pg_meals.specs.Shown.{content_of, half_noted, noted_by, planned_by, grip_of, notes_of}
+use Rattle.pg_meals.specs.Core.{Core, empty_content}
+use Rattle.pg_meals.specs.Entries.{is_actor, no_fork, idle, fork_at, actor_at}
+use Rattle.pg_meals.specs.Shown.{content_of, half_noted, noted_by, planned_by, grip_of, notes_of, core_from}
 use Rattle.pg_meals.proofs.At.{same_or_not, false_test}
 use Rattle.pg_meals.proofs.ListReads.{read_like}
 use Rattle.pg_meals.proofs.Marking.{prepared_like}
@@ -22,6 +23,20 @@ as_set f h a x here there b = go (same_or_not b a)
         let t : (b == a) ≡ true = (Decides-eqb b a).1 q in
         rw (t) (ap h q ∙ here)
     go (inr n) = rw (false_test b a n) (there b n)
+
+-- what an actor has yet to write isn't shown
+module _ {A : Type 0} (seats : ℕ → Seat A) (forks : ℕ → Fork A) (replicas : ℕ → List Replica) (actors : List Actor) (turn : Option ℕ) (journal : List JournalEntry) (a left : ℕ) (r : Actor) (a_in : a < length actors) (is : r ≡ actor_at actors a) where
+  abbrev y : Actor
+  y = record r { stale = left }
+
+  abbrev old : Core A
+  old = core_from seats forks replicas (actor_at actors) turn journal
+
+  pub left_shows : core_from seats forks replicas (actor_at (slice_set actors a y)) turn journal ≡ old
+  left_shows = λ j. record old {
+    words = record old.words { grip = λ b. read_like (λ z. grip_of b z forks) actors a y b idle a_in (ap (λ z. grip_of b z forks) is) j };
+    notes = λ b. read_like (λ z. notes_of b z forks seats replicas) actors a y b idle a_in (ap (λ z. notes_of b z forks seats replicas) is) j;
+  }
 
 -- one fork is written
 module _ {A : Type 0} (w : ℕ) (forks : List (Fork A)) (e : ℕ) (x f : Fork A) (e_in : e < length forks) (f_is : f ≡ fork_at w forks e) where

@@ -1,5 +1,5 @@
 -- Replicas that are stale or not, and when an actor may leave its vertex.
-use Rattle.std.proofs.Common.{ℕ, zero, suc, ◌<◌, ◌≡◌, ◌==◌, ◌&&◌, not, length, List, [], ◌∷◌, slice_index_or, Bool, true, false, cond, Some, arith, refl, sym, ap, subst, ◌∙◌, true≢false}
+use Rattle.std.proofs.Common.{ℕ, zero, suc, ◌<◌, ◌≡◌, ◌≢◌, ◌==◌, ◌&&◌, not, length, List, [], ◌∷◌, slice_index_or, Bool, true, false, cond, Some, arith, refl, sym, ap, ◌∙◌, true≢false}
 use Rattle.std.specs.Prelude.{Vec, ltb}
 use Rattle.std.specs.declared.alloc.Global.{Global}
 use Rattle.std.proofs.lemmas.Bool.Decides.{Decides-eqb, nat_tests}
@@ -8,12 +8,13 @@ use Rattle.pg_meals.specs.declared.seat.Replica.{Replica}
 use Rattle.pg_meals.specs.declared.actor.Actor.{Actor}
 use Rattle.pg_meals.specs.Once.{is_among, Once}
 use Rattle.pg_meals.specs.Entries.{actor_at, replicas_at, replica_in, homes}
-use Rattle.pg_meals.specs.Boards.{NoneStale, OneStale, HasWritten, LeavesStale}
 use Rattle.pg_meals.specs.Shown.{written_of}
+use Rattle.pg_meals.specs.Tallies.{stale_among, left_to_write}
 use Rattle.pg_meals.proofs.At.{false_test}
+use Rattle.pg_meals.proofs.Counts.{none_passes, one_passes}
 
 -- where no replica is stale, that of a worker that has one isn't
-pub none_stale : (xs : List Replica) → NoneStale xs → (k : ℕ) → is_among k (homes xs) ≡ true → (replica_in xs k).stale ≡ false
+none_stale : (xs : List Replica) → ((i : ℕ) (d : Replica) → i < length xs → (slice_index_or xs i d).stale ≡ false) → (k : ℕ) → is_among k (homes xs) ≡ true → (replica_in xs k).stale ≡ false
 none_stale [] none k t = absurd (true≢false (sym t))
 none_stale (x ∷ xs) none k t = go (k == x.worker) t (none_stale xs (λ i d l. none (suc i) d (omega arith)) k)
   where
@@ -56,21 +57,33 @@ module _ (actors : List Actor) (rows : List (Vec Replica Global)) (a v : ℕ) wh
   pub stale_unwritten : (k h : ℕ) → (actor_at actors a).vertex ≡ Some v → (actor_at actors a).committed ≡ true → (replica_in (replicas_at rows v) k).stale ≡ true → written k h ≡ false
   stale_unwritten k h busy t stale = written_is k h busy ∙ (λ j. t j && not (stale j) && ltb h 2)
 
-  -- an actor that has committed and finds none stale has written all
-  pub leaves : HasWritten actors rows a → (actor_at actors a).vertex ≡ Some v → (actor_at actors a).committed ≡ true → (k h : ℕ) → is_among k (homes (replicas_at rows v)) ≡ true → h < 2 → written k h ≡ true
-  leaves has busy t k h s l =
-      fresh_written k h busy t (none_stale (replicas_at rows v) (has v busy t) k s) l
+  abbrev left : ℕ
+  left = left_to_write (actor_at actors a).vertex (actor_at actors a).committed (replicas_at rows)
 
-  -- one that leaves one stale has not
-  pub stays_on : LeavesStale actors rows a → (actor_at actors a).vertex ≡ Some v → Once (homes (replicas_at rows v))
+  -- an actor that has nothing left to write has written all
+  pub leaves : left ≡ 0 → (actor_at actors a).vertex ≡ Some v → (actor_at actors a).committed ≡ true → (k h : ℕ) → is_among k (homes (replicas_at rows v)) ≡ true → h < 2 → written k h ≡ true
+  leaves nothing busy t k h s l =
+      let none : stale_among (replicas_at rows v) ≡ 0 = (λ j. left_to_write (sym busy j) (sym t j) (replicas_at rows)) ∙ nothing in
+      fresh_written k h busy t (none_stale (replicas_at rows v) (none_passes (λ (r : Replica). r.stale) (replicas_at rows v) none) k s) l
+
+  abbrev row : List Replica
+  row = replicas_at rows v
+
+  abbrev nowhere : Replica
+  nowhere = record { worker = 0; datum = two 0 0; stale = true }
+
+  -- one that has something left has not
+  pub stays_on : left ≢ 0 → (actor_at actors a).vertex ≡ Some v → Once (homes (replicas_at rows v))
       → ((actor_at actors a).committed ≡ true → (k h : ℕ) → is_among k (homes (replicas_at rows v)) ≡ true → h < 2 → written k h ≡ true) → ⊥
-  stays_on left busy o all =
-      let same : left.0 ≡ v = (let two : Some left.0 ≡ Some v = sym left.1 ∙ busy in cc) in
-      let one : OneStale (replicas_at rows v) = subst (λ u. OneStale (replicas_at rows u)) same left.3 in
-      let x = slice_index_or (replicas_at rows v) one.0 one.1 in
-      let stale : (replica_in (replicas_at rows v) x.worker).stale ≡ true = ap (λ (r : Replica). r.stale) (found (replicas_at rows v) one.0 one.1 o one.2) ∙ one.3 in
-      let unwritten : written x.worker 0 ≡ false = stale_unwritten x.worker 0 busy left.2 stale in
-      true≢false (sym (all left.2 x.worker 0 (home_of (replicas_at rows v) one.0 one.1 one.2) (omega arith)) ∙ unwritten)
+  stays_on some busy o all = go (actor_at actors a).committed refl
+    where
+      go : (c : Bool) → (actor_at actors a).committed ≡ c → ⊥
+      go false t = some (λ j. left_to_write (busy j) (t j) (replicas_at rows))
+      go true t =
+          let one = one_passes (λ (r : Replica). r.stale) row (λ n. some ((λ j. left_to_write (busy j) (t j) (replicas_at rows)) ∙ n)) in
+          let x = slice_index_or row one.0 nowhere in
+          let stale : (replica_in row x.worker).stale ≡ true = ap (λ (r : Replica). r.stale) (found row one.0 nowhere o one.1) ∙ one.2 nowhere in
+          true≢false (sym (all t x.worker 0 (home_of row one.0 nowhere one.1) (omega arith)) ∙ stale_unwritten x.worker 0 busy t stale)
 
 -- where no replica is of a worker, it has no home there
 pub no_home : (xs : List Replica) (k : ℕ) → ((i : ℕ) (d : Replica) → i < length xs → (slice_index_or xs i d).worker ≡ k → ⊥) → is_among k (homes xs) ≡ false

@@ -1,13 +1,9 @@
 -- What an act of a board is, and which boards can act.
-use Rattle.std.specs.Prelude.{ℕ, ◌≡◌, ◌<◌, ◌≤◌, ◌^◌, List, length, slice_index_or, true, false, Some, None, Vec}
+use Rattle.std.specs.Prelude.{ℕ, ◌≡◌, ◌<◌, ◌≤◌, ◌^◌, length, true, false, Some, None}
 use Rattle.std.specs.Vec.{vec_capacity}
-use Rattle.std.specs.declared.alloc.Global.{Global}
 use Rattle.pg_graph.specs.declared.edge.Side.{Side}
 use Rattle.pg_graph.specs.Multigraph.{Multigraph, end_at}
 use Rattle.pg_law.specs.declared.values.Datum.{Datum}
-use Rattle.pg_meals.specs.declared.fork.Fork.{Fork}
-use Rattle.pg_meals.specs.declared.seat.Replica.{Replica}
-use Rattle.pg_meals.specs.declared.actor.Actor.{Actor}
 use Rattle.pg_meals.specs.declared.actor.Ready.{Ready}
 use Rattle.pg_meals.specs.declared.board.Board.{Board}
 use Rattle.pg_meals.specs.Core.{Core}
@@ -15,40 +11,7 @@ use Rattle.pg_meals.specs.Acts.{Act, Outcome, Step}
 use Rattle.pg_meals.specs.Once.{Once}
 use Rattle.pg_meals.specs.Entries.{is_actor, fork_at, seat_at, actor_at, replicas_at, homes}
 use Rattle.pg_meals.specs.Shown.{core_of, shape_on}
-
--- the actor has pinned each of these forks, or not one of them
-abbrev pub PinsEach : {A : Type 0} → ℕ → List (Fork A) → List ℕ → Type 0
-PinsEach a forks es = (i : ℕ) → i < length es
-    → (fork_at 0 forks (slice_index_or es i 0)).mark.pinner ≡ Some a
-
-abbrev pub LacksOne : {A : Type 0} → ℕ → List (Fork A) → List ℕ → Type 0
-LacksOne a forks es = (i : ℕ) × (i < length es)
-    × ((fork_at 0 forks (slice_index_or es i 0)).mark.pinner ≡ Some a → ⊥)
-
--- it has pinned not one of them, or one
-abbrev pub PinsNone : {A : Type 0} → ℕ → List (Fork A) → List ℕ → Type 0
-PinsNone a forks es = (i : ℕ) → i < length es
-    → (fork_at 0 forks (slice_index_or es i 0)).mark.pinner ≡ Some a → ⊥
-
-abbrev pub PinsOne : {A : Type 0} → ℕ → List (Fork A) → List ℕ → Type 0
-PinsOne a forks es = (i : ℕ) × (i < length es)
-    × ((fork_at 0 forks (slice_index_or es i 0)).mark.pinner ≡ Some a)
-
--- no replica is stale, or one is
-abbrev pub NoneStale : List Replica → Type 0
-NoneStale xs = (i : ℕ) (d : Replica) → i < length xs → (slice_index_or xs i d).stale ≡ false
-
-abbrev pub OneStale : List Replica → Type 0
-OneStale xs = (i : ℕ) × (d : Replica) × (i < length xs) × ((slice_index_or xs i d).stale ≡ true)
-
--- an actor that has committed has written all replicas of its vertex, or not all
-abbrev pub HasWritten : List Actor → List (Vec Replica Global) → ℕ → Type 0
-HasWritten actors replicas a = (v : ℕ) → (actor_at actors a).vertex ≡ Some v
-    → (actor_at actors a).committed ≡ true → NoneStale (replicas_at replicas v)
-
-abbrev pub LeavesStale : List Actor → List (Vec Replica Global) → ℕ → Type 0
-LeavesStale actors replicas a = (v : ℕ) × ((actor_at actors a).vertex ≡ Some v)
-    × ((actor_at actors a).committed ≡ true) × OneStale (replicas_at replicas v)
+use Rattle.pg_meals.specs.Tallies.{IsTallied}
 
 -- an actor that has prepared has pinned all forks of its vertex
 abbrev pub HasPrepared : {A : Type 0} → Multigraph → Board A → Type 0
@@ -57,8 +20,9 @@ HasPrepared g b = (w a v e : ℕ) (s : Side) (x : Ready)
     → (actor_at b.actors.items a).vertex ≡ Some v → e < length g.edges → end_at g s e ≡ v
     → is_actor a (fork_at w b.forks.items e).mark.pinner ≡ true
 
--- as many entries as the graph has, and the journal's room; each worker has one replica of a vertex at most; an actor that
--- pinned a fork has the vertex at its side in hand, and a vertex in hand names its actor
+-- as many entries as the graph has, and the journal's room; each worker has one replica of a vertex
+-- at most; what is counted is true; an actor that pinned a fork has the vertex at its side in hand,
+-- and a vertex in hand names its actor
 pub record IsBoard {A : Type 0} (g : Multigraph) (b : Board A) : Type 0 where
   pub few : length g.ids ≤ 2 ^ 22
   pub seats : length b.seats.items ≡ length g.ids
@@ -67,6 +31,7 @@ pub record IsBoard {A : Type 0} (g : Multigraph) (b : Board A) : Type 0 where
   pub replicas : length b.replicas.items ≡ length g.ids
   pub once : (v : ℕ) → Once (homes (replicas_at b.replicas.items v))
   pub room : b.fuel ≤ vec_capacity b.journal
+  pub tallied : IsTallied b
   pub free : (w e : ℕ) → (fork_at w b.forks.items e).mark.word.pinned ≡ false
       → (fork_at w b.forks.items e).mark.pinner ≡ None
   pub held : (w a e : ℕ) → (fork_at w b.forks.items e).mark.pinner ≡ Some a

@@ -15,10 +15,11 @@ use Rattle.pg_meals.specs.Once.{Once}
 use Rattle.pg_meals.specs.Entries.{replicas_at, homes}
 use Rattle.pg_meals.specs.Shown.{core_of, cut_of}
 use Rattle.pg_meals.specs.Opened.{IsOpened}
+use Rattle.pg_meals.specs.Tallies.{IsTallied}
 use Rattle.pg_meals.specs.Boards.{IsBoard, Acts, ActsByHalves, Frame}
 
 -- what of a board its core doesn't show: as many entries as the graph has, one replica at most of a
--- vertex for each worker, and the journal's room
+-- vertex for each worker, the journal's room, and what is counted
 pub record IsLaid {A : Type 0} (g : Multigraph) (b : Board A) : Type 0 where
   pub few : length g.ids ≤ 2 ^ 22
   pub seats : length b.seats.items ≡ length g.ids
@@ -27,6 +28,7 @@ pub record IsLaid {A : Type 0} (g : Multigraph) (b : Board A) : Type 0 where
   pub replicas : length b.replicas.items ≡ length g.ids
   pub once : (v : ℕ) → Once (homes (replicas_at b.replicas.items v))
   pub room : b.fuel ≤ vec_capacity b.journal
+  pub tallied : IsTallied b
 
 -- the setting of a board over a graph and the state at the start
 abbrev pub setting_of : {A : Type 0} → Multigraph → Configuration → Board A → Setting
@@ -53,15 +55,17 @@ module _ {A C : Type 0} (p : Program A C) where
   abbrev pub KeptCanAct : Type 0
   KeptCanAct = (g : Multigraph) (s : Configuration) (b : Board A) → IsKept g s b → IsBoard g b
 
-  -- and is such a board after each act
+  -- and is such a board after each act, where what is counted is still true
   abbrev pub ActsCarry : Type 0
   ActsCarry = (g : Multigraph) (s : Configuration) (b : Board A) (a : ℕ) (act : Act) (b' : Board A)
-      (out : Outcome) → IsKept g s b → Acts g b a act b' out → Frame b b' → IsKept g s b'
+      (out : Outcome) → IsKept g s b → Acts g b a act b' out → Frame b b' → IsTallied b'
+      → IsKept g s b'
 
   abbrev pub HalvesCarry : Type 0
   HalvesCarry = (g : Multigraph) (s : Configuration) (b : Board A) (a : ℕ) (act : ℕ → Act)
       (b' : Board A) (out : ℕ → Outcome)
-      → IsKept g s b → ActsByHalves g b a act b' out → Frame b b' → IsKept g s b'
+      → IsKept g s b → ActsByHalves g b a act b' out → Frame b b' → IsTallied b'
+      → IsKept g s b'
 
   -- a board at the start is one, where the state fits the graph and the cells are true of it
   abbrev pub StartIsKept : Type 0

@@ -42,6 +42,8 @@ idle = record {
   turn = false;
   ready = None;
   before = two 0 0;
+  pinned = 0;
+  stale = 0;
 }
 
 abbrev pub arrived : ℕ → Bool → Actor
@@ -63,8 +65,14 @@ no_fork w = record {
 }
 
 abbrev pub no_seat : {A : Type 0} → Datum → Seat A
-no_seat d =
-    record { holder = None; datum = d; message = None; cell = cleared; prepared = cleared }
+no_seat d = record {
+  holder = None;
+  datum = d;
+  message = None;
+  cell = cleared;
+  prepared = cleared;
+  last = 0;
+}
 
 abbrev pub fork_at : {A : Type 0} → ℕ → List (Fork A) → ℕ → Fork A
 fork_at w forks e = slice_index_or forks e (no_fork w)

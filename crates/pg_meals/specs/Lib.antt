@@ -20,6 +20,7 @@ pub mod Signals
 pub mod Once
 pub mod Entries
 pub mod Shown
+pub mod Tallies
 pub mod Boards
 pub mod Exchanges
 pub mod Opening

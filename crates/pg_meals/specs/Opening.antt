@@ -34,8 +34,14 @@ fork_on g words e = new_fork (edge_at g e) (slice_index words e)
 
 -- a vertex that nobody has in hand
 abbrev pub new_seat : {A : Type 0} → Datum → Option ℕ → CacheCell A → Seat A
-new_seat d m cell =
-    record { holder = None; datum = d; message = m; cell = cell; prepared = cleared }
+new_seat d m cell = record {
+  holder = None;
+  datum = d;
+  message = m;
+  cell = cell;
+  prepared = cleared;
+  last = 0;
+}
 
 abbrev pub seat_on : {A : Type 0} → Configuration → List (CacheCell A) → ℕ → Seat A
 seat_on s cells v =

@@ -9,6 +9,9 @@ pub struct Ready {
 }
 
 /// An actor: its vertex in hand, what it found and did there, and the datum before its entry.
+///
+/// `pinned` is how many forks it has pinned, and `stale` to how many replicas it has yet to write
+/// its entry. Both are counted as it goes, so that no act looks through forks or replicas.
 #[derive(Clone, Copy)]
 pub struct Actor {
     pub vertex: Option<u32>,
@@ -17,6 +20,8 @@ pub struct Actor {
     pub turn: bool,
     pub ready: Option<Ready>,
     pub before: Datum,
+    pub pinned: usize,
+    pub stale: usize,
 }
 
 impl Actor {
@@ -34,6 +39,8 @@ impl Actor {
             turn: false,
             ready: None,
             before: Datum::two(0, 0),
+            pinned: 0,
+            stale: 0,
         }
     }
 

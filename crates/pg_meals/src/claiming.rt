@@ -1,6 +1,7 @@
 //! Taking a vertex in hand, and dropping it.
 ghost use Rattle.std.specs.Prelude.{◌≡◌, ◌<◌, length, MatchBool, IsFalse};
 ghost use Rattle.pg_meals.specs.Acts.{Claim, Drop as DropAct, Moved};
+ghost use Rattle.pg_meals.specs.Tallies.{IsTallied};
 ghost use Rattle.pg_meals.specs.Boards.{IsBoard, Frame, Acts, MayNot};
 
 use crate::actor::Actor;
@@ -18,6 +19,7 @@ impl<A: Drop> Board<A> {
             (self.new ≡ self.old) }
         ensures refused { IsFalse result → MayNot graph.now self.old actor (Claim vertex) }
         ensures frame { Frame self.old self.new }
+        ensures tallied { IsTallied self.new }
     {
         if self.actors[actor as usize].vertex.is_some() {
             return false;
@@ -41,6 +43,7 @@ impl<A: Drop> Board<A> {
             (self.new ≡ self.old) }
         ensures refused { IsFalse result → MayNot graph.now self.old actor DropAct }
         ensures frame { Frame self.old self.new }
+        ensures tallied { IsTallied self.new }
     {
         let record = self.actors[actor as usize];
         if record.turn {
@@ -49,10 +52,10 @@ impl<A: Drop> Board<A> {
         let Some(vertex) = record.vertex else {
             return false;
         };
-        if !self.has_none(graph, actor, vertex) {
+        if record.pinned != 0 {
             return false;
         }
-        if !self.may_leave(graph, actor) {
+        if record.stale != 0 {
             return false;
         }
         self.seats[vertex as usize].holder = None;

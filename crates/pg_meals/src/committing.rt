@@ -3,6 +3,7 @@ ghost use Rattle.std.specs.Prelude.{◌≡◌, ◌<◌, length, map, All, MatchO
 ghost use Rattle.pg_meals.specs.Once.{Once};
 ghost use Rattle.pg_meals.specs.Acts.{Commit, Entered};
 ghost use Rattle.pg_meals.specs.Exchanges.{AreExchanged, made_stale};
+ghost use Rattle.pg_meals.specs.Tallies.{IsTallied};
 ghost use Rattle.pg_meals.specs.Boards.{IsBoard, Frame, Acts, MayNot};
 
 use crate::actor::Actor;
@@ -47,6 +48,7 @@ impl<A: Drop> Board<A> {
             (λ number. Acts graph.now self.old actor Commit self.new (Entered number)) }
         ensures refused { IsNone result → MayNot graph.now self.old actor Commit }
         ensures frame { Frame self.old self.new }
+        ensures tallied { IsTallied self.new }
     {
         let record = self.actors[actor as usize];
         if !record.turn {
@@ -68,16 +70,19 @@ impl<A: Drop> Board<A> {
         let datum = ready.datum;
         self.journal.push_reserved(JournalEntry { vertex, datum });
         exchange(&mut self.forks, graph.edges_of(vertex));
+        let stale = self.replicas[vertex as usize].len();
         make_stale(&mut self.replicas[vertex as usize]);
         let seat = &mut self.seats[vertex as usize];
         let before = seat.datum;
         seat.datum = datum;
         seat.message = ready.again;
         swap(&mut seat.cell, &mut seat.prepared);
+        seat.last = number + 1;
         self.actors[actor as usize] = Actor {
             committed: true,
             ready: None,
             before,
+            stale,
             ..record
         };
         Some(number as u64)

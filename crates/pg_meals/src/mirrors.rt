@@ -5,8 +5,10 @@ ghost use Rattle.pg_graph.specs.Multigraph.{end_at};
 ghost use Rattle.pg_meals.specs.Core.{half_of};
 ghost use Rattle.pg_meals.specs.Acts.{ReadMirror, WriteMirror, Moved, Read};
 ghost use Rattle.pg_meals.specs.Entries.{IsHome, replicas_at, replica_in};
+ghost use Rattle.pg_meals.specs.Tallies.{IsTallied};
 ghost use Rattle.pg_meals.specs.Boards.{IsBoard, Frame, ActsByHalves, MayNot};
 
+use crate::actor::Actor;
 use crate::board::Board;
 use crate::fork::Mark;
 use crate::seat::Replica;
@@ -56,6 +58,7 @@ impl<A: Drop> Board<A> {
         ensures refused { IsNone result
             → (h : ℕ) → MayNot graph.now self.old actor (ReadMirror edge h) }
         ensures frame { Frame self.old self.new }
+        ensures tallied { IsTallied self.new }
     {
         if self.actors[actor as usize].committed {
             return None;
@@ -85,6 +88,7 @@ impl<A: Drop> Board<A> {
         ensures refused { IsFalse result
             → (h : ℕ) → MayNot graph.now self.old actor (WriteMirror worker h) }
         ensures frame { Frame self.old self.new }
+        ensures tallied { IsTallied self.new }
     {
         let record = self.actors[actor as usize];
         if !record.committed {
@@ -108,6 +112,10 @@ impl<A: Drop> Board<A> {
             worker,
             datum,
             stale: false,
+        };
+        self.actors[actor as usize] = Actor {
+            stale: record.stale - 1,
+            ..record
         };
         true
     }

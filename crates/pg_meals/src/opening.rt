@@ -103,8 +103,8 @@ pub fn seats_of<A: Drop>(
     mut cells: Vec<CacheCell<A>>,
 ) -> Result<Vec<Seat<A>>, AllocError>
     requires { length state.now.messages ≡ length state.now.values }
-    ensures { IfOk result (λ seats.
-        seats.items ≡ map (seat_on state.now cells.items) (range_with_len 0 (length state.now.values))) }
+    ensures { IfOk result (λ seats. seats.items
+        ≡ map (seat_on state.now cells.items) (range_with_len 0 (length state.now.values))) }
 {
     let mut seats = Vec::with_capacity(alloc, state.values.len())?;
     for v in 0..state.values.len() {
@@ -115,6 +115,7 @@ pub fn seats_of<A: Drop>(
             message: state.messages[v],
             cell,
             prepared: CacheCell::new(),
+            last: 0,
         })?;
     }
     Ok(seats)

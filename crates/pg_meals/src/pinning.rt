@@ -1,6 +1,7 @@
 //! Looking at a fork, pinning it, asking for it.
 ghost use Rattle.std.specs.Prelude.{◌≡◌, ◌<◌, length, MatchBool, MatchOption, IsFalse, IsNone};
 ghost use Rattle.pg_meals.specs.Acts.{Look, Pin, Ask, Moved, Saw};
+ghost use Rattle.pg_meals.specs.Tallies.{IsTallied};
 ghost use Rattle.pg_meals.specs.Boards.{IsBoard, Frame, Acts, MayNot};
 
 use crate::actor::Actor;
@@ -20,6 +21,7 @@ impl<A: Drop> Board<A> {
             (λ bits. Acts graph.now self.old actor (Look edge) self.new (Saw bits)) }
         ensures refused { IsNone result → MayNot graph.now self.old actor (Look edge) }
         ensures frame { Frame self.old self.new }
+        ensures tallied { IsTallied self.new }
     {
         let record = self.actors[actor as usize];
         let Some(me) = self.side_of(graph, actor, edge) else {
@@ -41,6 +43,7 @@ impl<A: Drop> Board<A> {
             (self.new ≡ self.old) }
         ensures refused { IsFalse result → MayNot graph.now self.old actor (Ask edge) }
         ensures frame { Frame self.old self.new }
+        ensures tallied { IsTallied self.new }
     {
         let record = self.actors[actor as usize];
         if record.committed {
@@ -71,6 +74,7 @@ impl<A: Drop> Board<A> {
             (self.new ≡ self.old) }
         ensures refused { IsFalse result → MayNot graph.now self.old actor (Pin edge) }
         ensures frame { Frame self.old self.new }
+        ensures tallied { IsTallied self.new }
     {
         let record = self.actors[actor as usize];
         if record.committed {
@@ -91,7 +95,11 @@ impl<A: Drop> Board<A> {
             taken: got.taken,
             noted: None,
         };
-        self.actors[actor as usize] = Actor { evidence, ..record };
+        self.actors[actor as usize] = Actor {
+            evidence,
+            pinned: record.pinned + 1,
+            ..record
+        };
         true
     }
 }

@@ -4,7 +4,7 @@ ghost use Rattle.pg_meals.specs.Least.{IsAwaited, IsQuiet, IsLeastBelow, AllQuie
 ghost use Rattle.pg_meals.specs.Boards.{IsBoard};
 
 use crate::board::Board;
-use crate::ranking::{Ranked, last_entry, lesser};
+use crate::ranking::{Ranked, lesser};
 use pg_graph::Graph;
 
 impl<A: Drop> Board<A> {
@@ -38,7 +38,7 @@ impl<A: Drop> Board<A> {
         let mut first = None;
         for vertex in 0..graph.vertices() {
             if self.is_signalled(graph, vertex) {
-                let last = last_entry(self.journal.as_slice(), vertex);
+                let last = self.seats[vertex as usize].last;
                 first = Some(lesser(first, Ranked { vertex, last }));
             }
         }

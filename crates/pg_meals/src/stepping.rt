@@ -1,5 +1,6 @@
 //! Any act by its name.
 ghost use Rattle.std.specs.Prelude.{◌≡◌, ◌<◌, length, None, Some, MatchBool, MatchOption, IsNone};
+ghost use Rattle.pg_meals.specs.Tallies.{IsTallied};
 ghost use Rattle.pg_meals.specs.Boards.{IsBoard, Frame};
 ghost use Rattle.pg_meals.specs.Steps.{IsWithin, MakesOn, RefusesOn, told_moved};
 
@@ -25,6 +26,7 @@ impl<A: Drop> Board<A> {
             (MakesOn graph.now self.old actor act self.new) }
         ensures refused { IsNone result → RefusesOn graph.now self.old actor act }
         ensures frame { Frame self.old self.new }
+        ensures tallied { IsTallied self.new }
     {
         match act {
             Act::Claim { vertex } => moved(self.claim(graph, actor, vertex)),

@@ -186,8 +186,7 @@ impl<'g, P: VertexProgram> MealTable<'g, P> {
 
     /// The signalled vertex of least rank.
     ///
-    /// It looks at each vertex and at both ends of each edge, and at the whole journal once for each
-    /// signalled vertex.
+    /// It looks at each vertex and at both ends of each edge.
     pub fn least_signalled(&self) -> Option<u32>
         ensures { MatchOption result
             (IsQuietTable (P.meaning self.now.program) self.now)

@@ -1,30 +1,14 @@
 //! Taking the turn, and giving it.
 ghost use Rattle.std.specs.Prelude.{◌≡◌, ◌<◌, length, MatchBool, IsFalse};
-ghost use Rattle.pg_graph.specs.Multigraph.{edges_at};
 ghost use Rattle.pg_meals.specs.Acts.{Turn, Give, Moved};
-ghost use Rattle.pg_meals.specs.Boards.{IsBoard, Frame, Acts, MayNot, PinsEach, LacksOne};
+ghost use Rattle.pg_meals.specs.Tallies.{IsTallied};
+ghost use Rattle.pg_meals.specs.Boards.{IsBoard, Frame, Acts, MayNot};
 
 use crate::actor::Actor;
 use crate::board::Board;
 use pg_graph::Graph;
 
 impl<A: Drop> Board<A> {
-    /// Whether the actor has pinned all forks of a vertex.
-    pub fn has_all(&self, graph: &Graph, actor: u32, vertex: u32) -> bool
-        requires vertex { vertex < length graph.now.ids }
-        requires board { IsBoard graph.now self.now }
-        ensures { MatchBool result
-            (PinsEach actor self.now.forks.items (edges_at graph.now vertex))
-            (LacksOne actor self.now.forks.items (edges_at graph.now vertex)) }
-    {
-        for edge in graph.edges_of(vertex) {
-            if self.forks[*edge as usize].mark.pinner != Some(actor) {
-                return false;
-            }
-        }
-        true
-    }
-
     /// The actor takes the turn, once it has pinned all forks of its vertex.
     pub fn take_turn(&mut self, graph: &Graph, actor: u32) -> bool
         requires actor { actor < length self.old.actors.items }
@@ -34,6 +18,7 @@ impl<A: Drop> Board<A> {
             (self.new ≡ self.old) }
         ensures refused { IsFalse result → MayNot graph.now self.old actor Turn }
         ensures frame { Frame self.old self.new }
+        ensures tallied { IsTallied self.new }
     {
         let record = self.actors[actor as usize];
         if record.committed {
@@ -45,7 +30,7 @@ impl<A: Drop> Board<A> {
         let Some(vertex) = record.vertex else {
             return false;
         };
-        if !self.has_all(graph, actor, vertex) {
+        if record.pinned != graph.edges_of(vertex).len() {
             return false;
         }
         self.turn = Some(actor);
@@ -65,6 +50,7 @@ impl<A: Drop> Board<A> {
             (self.new ≡ self.old) }
         ensures refused { IsFalse result → MayNot graph.now self.old actor Give }
         ensures frame { Frame self.old self.new }
+        ensures tallied { IsTallied self.new }
     {
         let record = self.actors[actor as usize];
         if !record.turn {

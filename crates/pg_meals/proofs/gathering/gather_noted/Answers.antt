@@ -1,10 +1,10 @@
-use Rattle.std.proofs.Common.{ℕ, ◌<◌, ◌+◌, ◌≡◌, length, slice_index_or, take, true, false, arith, refl, sym, ap, subst, ◌∙◌}
+use Rattle.std.proofs.Common.{ℕ, ◌+◌, ◌≡◌, length, slice_index_or, take, true, false, arith, sym, ap, subst, ◌∙◌}
 use Rattle.std.proofs.lemmas.List.{take_all}
 use Rattle.std.specs.Prelude.{filter}
 use Rattle.pg_graph.specs.Multigraph.{no_edge, side_of, side_at, takes}
 use Rattle.pg_law.specs.Laws.{IsNear}
 use Rattle.pg_law.specs.Round.{edges_over}
-use Rattle.pg_meals.specs.Plans.{near_over, gather_along}
+use Rattle.pg_meals.specs.Plans.{gather_along}
 use Rattle.pg_meals.proofs.Looping.{fold_passing_more, count_passing_more}
 use Rattle.pg_meals.proofs.gathering.gather_noted.Goals as goal
 use Rattle.pg_meals.proofs.gathering.gather_noted.Goals.{then-takes+in_ok-part+in_ok-acc-2, else-takes}

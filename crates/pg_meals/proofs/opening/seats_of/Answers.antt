@@ -21,7 +21,7 @@ loop-v-preserved g c =
     let message : c.index-in-loop-v.result.now ≡ message_in s.messages v = c.index-in-loop-v.ensures ∙ (read_any inside.messages.items v c.index-in-loop-v.result.now None m_in ∙ ap (λ xs. message_in xs v) messages_are) in
     let cell : c.take_cell-cell.result ≡ cell_at c.args.cells.items v = c.take_cell-cell.ensures.cell ∙ c.loop-v.invariant.rest v (omega arith) in
     record {
-      done = c.in_ok-push.ensures.items ∙ grown (seat_on s c.args.cells.items) v _ _ c.loop-v.invariant.done (λ j. record { holder = None; datum = datum j; message = message j; cell = cell j; prepared = c.new.ensures j });
+      done = c.in_ok-push.ensures.items ∙ grown (seat_on s c.args.cells.items) v _ _ c.loop-v.invariant.done (λ j. record { holder = None; datum = datum j; message = message j; cell = cell j; prepared = c.new.ensures j; last = 0 });
       rest = λ u l. c.take_cell-cell.ensures.rest u (λ q. omega (arith, l, q)) ∙ c.loop-v.invariant.rest u (omega (arith, l));
     }
 

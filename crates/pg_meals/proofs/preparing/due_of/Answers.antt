@@ -1,4 +1,4 @@
-use Rattle.std.proofs.Common.{ℕ, ◌<◌, ◌≡◌, Some, None, length, arith, refl, sym, ap, subst, ◌∙◌}
+use Rattle.std.proofs.Common.{ℕ, ◌<◌, ◌≡◌, Some, None, length, arith, sym, ap, subst, ◌∙◌}
 use Rattle.pg_graph.specs.Multigraph.{edges_at}
 use Rattle.pg_law.specs.Laws.{IsOptional}
 use Rattle.pg_meals.specs.declared.seat.Seat.{Seat}

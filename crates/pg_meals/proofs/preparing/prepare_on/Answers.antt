@@ -1,9 +1,8 @@
-use Rattle.std.proofs.Common.{ℕ, ◌<◌, ◌≡◌, length, arith, refl, sym, ap, subst, ◌∙◌}
-use Rattle.std.proofs.lemmas.List.{length-map}
+use Rattle.std.proofs.Common.{ℕ, ◌<◌, length, arith}
 use Rattle.pg_meals.specs.Plans.{planned_over}
 use Rattle.pg_meals.specs.Prepares.{applied_on}
 use Rattle.pg_meals.proofs.Carried.{board_is}
-use Rattle.pg_meals.proofs.Drafted.{draft_prepares, readied_frame, prepare_carries}
+use Rattle.pg_meals.proofs.Drafted.{draft_prepares, readied_frame, readied_tallied, prepare_carries}
 use Rattle.pg_meals.proofs.preparing.prepare_on.Goals as goal
 
 pub keep-requires-clause-vertex : goal.keep-requires-clause-vertex
@@ -39,4 +38,6 @@ returns-clause-kept g c = λ s kept.
     let plan = planned_over p c.args.graph.now c.args.board.now.forks.items v (applied_on p c.args.graph.now c.args.board.now c.args.actor v c.in-Some.due.message) in
     let readied = c.keep.ensures plan draft.plans in
     let made = draft_prepares p c.laws_of.ensures c.args.graph.now s c.args.board.now kept c.args.actor v c.in-Some.due.message c.in-Some.ensures c.keep.new.self c.in_ok-draft.draft draft c.requires.actor readied in
-    prepare_carries p c.laws_of.ensures c.args.graph.now s c.args.board.now c.keep.new.self c.args.actor kept made (readied_frame c.args.graph.now c.args.board.now c.keep.new.self c.args.actor v c.in_ok-draft.draft.ready c.in_ok-draft.draft.cell plan readied)
+    let v_in : v < length c.args.board.now.seats.items = omega (arith, kept.stands.kept.clean.inside c.args.actor v c.in-Some.ensures.busy, kept.laid.seats) in
+    let tallied = readied_tallied c.args.graph.now c.args.board.now c.keep.new.self c.args.actor v c.in_ok-draft.draft.ready c.in_ok-draft.draft.cell plan c.requires.actor v_in readied kept.laid.tallied in
+    prepare_carries p c.laws_of.ensures c.args.graph.now s c.args.board.now c.keep.new.self c.args.actor kept made (readied_frame c.args.graph.now c.args.board.now c.keep.new.self c.args.actor v c.in_ok-draft.draft.ready c.in_ok-draft.draft.cell plan readied) tallied

@@ -1,4 +1,4 @@
-use Rattle.std.proofs.Common.{ℕ, ◌≡◌, ◌≤◌, ◌<◌, take, length, slice_index_or}
+use Rattle.std.proofs.Common.{ℕ, ◌≡◌, ◌≤◌, take, length, slice_index_or}
 use Rattle.std.specs.Prelude.{map}
 use Rattle.pg_meals.specs.declared.fork.Carried.{Carried}
 use Rattle.pg_meals.specs.Readied.{ArePlanned}

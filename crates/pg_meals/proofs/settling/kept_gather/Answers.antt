@@ -1,8 +1,7 @@
-use Rattle.std.proofs.Common.{ℕ, ◌<◌, ◌≡◌, length, slice_index_or, arith, refl, sym, ap, subst, ◌∙◌}
+use Rattle.std.proofs.Common.{ℕ, ◌<◌, ◌≡◌, length, slice_index_or, arith, sym, ap, ◌∙◌}
 use Rattle.std.proofs.lemmas.List.Sums.{fold_more}
 use Rattle.pg_graph.specs.Multigraph.{no_edge, side_of, side_at}
 use Rattle.pg_meals.specs.declared.fork.Ride.{Ride}
-use Rattle.pg_meals.specs.declared.fork.Fork.{Fork}
 use Rattle.pg_meals.specs.Plans.{added}
 use Rattle.pg_meals.specs.Entries.{at_side, no_fork}
 use Rattle.pg_meals.proofs.ListReads.{read_any}

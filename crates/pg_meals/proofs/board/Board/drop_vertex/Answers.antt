@@ -1,36 +1,28 @@
-use Rattle.std.proofs.Common.{ℕ, ◌<◌, ◌≡◌, length, slice_index_or, false, Some, None, arith, refl, sym, ap, ◌∙◌, true≢false}
-use Rattle.std.proofs.lemmas.Bool.Decides.{Decides-eqb}
-use Rattle.pg_graph.specs.declared.edge.Side.{Side}
-use Rattle.pg_graph.specs.Multigraph.{end_at, edges_at}
-use Rattle.pg_meals.specs.declared.fork.Mark.{Mark}
+use Rattle.std.proofs.Common.{ℕ, ◌<◌, ◌≡◌, length, false, Some, None, arith, refl, sym, ap, ◌∙◌}
+use Rattle.pg_law.specs.Values.{two}
+use Rattle.pg_meals.specs.declared.seat.Seat.{Seat}
 use Rattle.pg_meals.specs.declared.actor.Actor.{Actor}
-use Rattle.pg_meals.specs.Entries.{is_actor, no_seat, idle, fork_at, actor_at, replicas_at}
-use Rattle.pg_meals.proofs.ListReads.{read_any, mark_same}
-use Rattle.pg_meals.proofs.Gathers.{below_or_past}
-use Rattle.pg_meals.proofs.Claimed.{seated_shows, pins_nothing}
-use Rattle.pg_meals.proofs.Holding.{around_all}
+use Rattle.pg_meals.specs.Entries.{no_seat, idle, fork_at, actor_at, replicas_at}
+use Rattle.pg_meals.specs.Tallies.{pins_among}
+use Rattle.pg_meals.proofs.ListReads.{read_any}
+use Rattle.pg_meals.proofs.Claimed.{seated_shows}
 use Rattle.pg_meals.proofs.Written.{leaves, stays_on}
+use Rattle.pg_meals.proofs.Tallied.{pins_zero, none_pinned, pins_new, stale_actor, left_none, last_seat}
 use Rattle.pg_meals.proofs.board.Board.drop_vertex.Goals as goal
 
-pub has_none-requires-clause-vertex : goal.has_none-requires-clause-vertex
-has_none-requires-clause-vertex g c =
-    let b = c.args.self.now in
-    let actor_is = c.index-record.ensures ∙ read_any b.actors.items c.args.actor c.index-record.result.now idle c.requires.actor in
-    c.requires.board.inside c.args.actor c.in-Some.vertex (ap (λ (z : Actor). z.vertex) (sym actor_is) ∙ c.in-Some.is)
-
-pub returns-then-not-has_none-clause-refused : goal.returns-then-not-has_none-clause-refused
-returns-then-not-has_none-clause-refused g c = λ n w d core out step.
+pub returns-then-record-ne0-clause-refused : goal.returns-then-record-ne0-clause-refused
+returns-then-record-ne0-clause-refused g c = λ n w d core out step.
     let b = c.args.self.now in
     let a : ℕ = c.args.actor in
-    let one = c.if-not-has_none.ensures in
-    let e : ℕ = slice_index_or (edges_at c.args.graph.now c.in-Some.vertex) one.0 0 in
-    let pinned : (fork_at w b.forks.items e).mark.pinner ≡ Some a = ap (λ (m : Mark). m.pinner) (mark_same w 0 b.forks.items e (below_or_past e (length b.forks.items))) ∙ one.2 in
-    true≢false (sym (ap (is_actor a) pinned ∙ (Decides-eqb a a).1 refl) ∙ step.2 e)
+    let actor_is = c.index-record.ensures ∙ read_any b.actors.items a c.index-record.result.now idle c.requires.actor in
+    c.if-record-ne0.true (ap (λ (z : Actor). z.pinned) actor_is ∙ (c.requires.board.tallied.pinned a ∙ pins_zero b.forks.items a w step.2))
 
-pub returns-then-not-may_leave-clause-refused : goal.returns-then-not-may_leave-clause-refused
-returns-then-not-may_leave-clause-refused g c = λ n w d core out step.
+pub returns-then-record-ne0-2-clause-refused : goal.returns-then-record-ne0-2-clause-refused
+returns-then-record-ne0-2-clause-refused g c = λ n w d core out step.
     let b = c.args.self.now in
-    stays_on b.actors.items b.replicas.items c.args.actor step.0 (c.if-not-may_leave.ensures.stays refl) step.1 (c.requires.board.once step.0) step.4
+    let a : ℕ = c.args.actor in
+    let actor_is = c.index-record.ensures ∙ read_any b.actors.items a c.index-record.result.now idle c.requires.actor in
+    stays_on b.actors.items b.replicas.items a step.0 (λ q. c.if-record-ne0-2.true (ap (λ (z : Actor). z.stale) actor_is ∙ (c.requires.board.tallied.stale a ∙ q))) step.1 (c.requires.board.once step.0) step.4
 
 pub overflow_cast-vertex : goal.overflow_cast-vertex
 overflow_cast-vertex g c =
@@ -48,24 +40,34 @@ returns-clause-acts g c = λ w d.
     let busy : (actor_at b.actors.items a).vertex ≡ Some v = ap (λ (z : Actor). z.vertex) (sym actor_is) ∙ c.in-Some.is in
     let inside : v < length c.args.graph.now.ids = c.requires.board.inside a v busy in
     let v_in : v < length b.seats.items = omega (arith, inside, c.requires.board.seats) in
-    let none : (s : Side) (e : ℕ) → e < length c.args.graph.now.edges → end_at c.args.graph.now s e ≡ v → (fork_at 0 b.forks.items e).mark.pinner ≡ Some a → ⊥
-    = around_all (λ f. (fork_at 0 b.forks.items f).mark.pinner ≡ Some a → ⊥) c.args.graph.now v c.if-not-has_none.ensures in
-    let pins : (e : ℕ) → is_actor a (fork_at w b.forks.items e).mark.pinner ≡ false
-    = λ e. pins_nothing a (fork_at w b.forks.items e).mark.pinner (λ o q r.
-    let pinned : (fork_at w b.forks.items e).mark.pinner ≡ Some a = q ∙ ap Some r in
-    let here = c.requires.board.held w a e pinned in
-    let at : end_at c.args.graph.now (fork_at w b.forks.items e).mark.word.side e ≡ v = (let two = sym here.1 ∙ busy in cc) in
-    none (fork_at w b.forks.items e).mark.word.side e here.0 at (ap (λ (m : Mark). m.pinner) (mark_same 0 w b.forks.items e (below_or_past e (length b.forks.items))) ∙ pinned)) in
+    let pins = none_pinned b.forks.items a (sym (c.requires.board.tallied.pinned a) ∙ (ap (λ (z : Actor). z.pinned) (sym actor_is) ∙ c.if-record-ne0.false)) w in
     let shown = seated_shows d b.seats.items (fork_at w b.forks.items) (replicas_at b.replicas.items) b.actors.items b.turn b.journal.items a v c.index_mut.result.now None None false c.idle.result
     c.requires.actor v_in (c.index_mut.ensures.value ∙ read_any b.seats.items v c.index_mut.result.now (no_seat d) v_in) c.idle.ensures pins in (
       v,
       busy,
       pins,
       ap (λ (z : Actor). z.turn) (sym actor_is) ∙ c.if-record.false,
-      leaves b.actors.items b.replicas.items a v (c.if-not-may_leave.ensures.may refl) busy,
+      leaves b.actors.items b.replicas.items a v (sym (c.requires.board.tallied.stale a) ∙ (ap (λ (z : Actor). z.stale) (sym actor_is) ∙ c.if-record-ne0-2.false)) busy,
       shown,
       refl,
     )
+
+pub returns-clause-tallied : goal.returns-clause-tallied
+returns-clause-tallied g c =
+    let b = c.args.self.now in
+    let a : ℕ = c.args.actor in
+    let v : ℕ = c.in-Some.vertex in
+    let counted = c.requires.board.tallied in
+    let actor_is = c.index-record.ensures ∙ read_any b.actors.items a c.index-record.result.now idle c.requires.actor in
+    let inside = c.requires.board.inside a v (ap (λ (z : Actor). z.vertex) (sym actor_is) ∙ c.in-Some.is) in
+    let v_in : v < length b.seats.items = omega (arith, inside, c.requires.board.seats) in
+    let none : pins_among a b.forks.items ≡ 0 = sym (counted.pinned a) ∙ (ap (λ (z : Actor). z.pinned) (sym actor_is) ∙ c.if-record-ne0.false) in
+    let now_is = c.index_mut.ensures.value ∙ read_any b.seats.items v c.index_mut.result.now (no_seat (two 0 0)) v_in in
+    record {
+      pinned = pins_new b.forks.items b.actors.items counted.pinned a c.idle.result c.requires.actor (ap (λ (z : Actor). z.pinned) c.idle.ensures) (none_pinned b.forks.items a none 0);
+      stale = stale_actor b.replicas.items b.actors.items counted.stale a c.idle.result c.requires.actor (left_none b.replicas.items c.idle.result None false c.idle.ensures);
+      last = last_seat b.seats.items b.journal.items counted.last v _ v_in (ap (λ (z : Seat _). z.last) now_is);
+    }
 
 pub index_mut-requires : goal.index_mut-requires
 index_mut-requires g c =

@@ -1,4 +1,4 @@
-use Rattle.std.proofs.Common.{ℕ, ◌<◌, ◌≡◌, ◌||◌, length, slice_index_or, true, arith, refl, sym, ap, subst, ◌∙◌, below_more}
+use Rattle.std.proofs.Common.{ℕ, ◌<◌, ◌≡◌, ◌||◌, length, slice_index_or, true, arith, sym, ap, subst, ◌∙◌, below_more}
 use Rattle.pg_graph.specs.Multigraph.{no_edge, side_of, side_at, takes}
 use Rattle.pg_meals.specs.Entries.{no_fork}
 use Rattle.pg_meals.specs.Readied.{is_seen, sees_over}

@@ -1,8 +1,6 @@
-use Rattle.std.proofs.Common.{ℕ, ◌<◌, ◌≡◌, length, slice_index_or, slice_set, arith, refl, sym, ap, subst, ◌∙◌}
+use Rattle.std.proofs.Common.{◌<◌, length, slice_set, arith, refl, sym, ap, subst, ◌∙◌}
 use Rattle.pg_graph.specs.Multigraph.{edge_at, is_at, edges_at}
 use Rattle.pg_law.specs.Values.{two}
-use Rattle.pg_meals.specs.declared.seat.Seat.{Seat}
-use Rattle.pg_meals.specs.declared.actor.Actor.{Actor}
 use Rattle.std.proofs.Common.{Some}
 use Rattle.pg_meals.specs.Once.{Once}
 use Rattle.pg_meals.specs.Entries.{no_seat, idle}

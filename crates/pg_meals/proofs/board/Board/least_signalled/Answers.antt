@@ -1,5 +1,8 @@
-use Rattle.std.proofs.Common.{ℕ, ◌+◌, ◌≡◌, Some, length, arith, sym, ap, subst, ◌∙◌}
-use Rattle.pg_meals.specs.Ranks.{last_entry}
+use Rattle.std.proofs.Common.{ℕ, ◌+◌, ◌<◌, ◌≡◌, Some, length, arith, sym, ap, subst, ◌∙◌}
+use Rattle.pg_law.specs.Values.{two}
+use Rattle.pg_meals.specs.declared.seat.Seat.{Seat}
+use Rattle.pg_meals.specs.Entries.{no_seat}
+use Rattle.pg_meals.proofs.ListReads.{read_any}
 use Rattle.pg_meals.proofs.Firsts.{IsFound, quiet_more, least_more}
 use Rattle.pg_meals.proofs.board.Board.least_signalled.Goals.{then-is_signalled, else-is_signalled}
 use Rattle.pg_meals.proofs.board.Board.least_signalled.Goals as goal
@@ -9,10 +12,11 @@ loop-vertex-preserved g c =
     let b = c.args.self.now in
     let graph = c.args.graph.now in
     let n : ℕ = c.loop-vertex.vertex in
+    let n_in : n < length b.seats.items = omega (arith, c.loop-vertex-test.true, c.vertices-vertex-end.ensures.value, c.requires.seats) in
     elim c.if-is_signalled.branch [
       | then-is_signalled w ↦
           subst (IsFound graph b (n + 1)) (sym (w.first-is ∙ ap Some w.lesser.ensures))
-          (least_more graph b n w.last_entry-last.result w.if-is_signalled.ensures (w.last_entry-last.ensures ∙ ap (λ xs. last_entry xs n) w.as_slice.ensures.value) c.loop-vertex.first c.loop-vertex.invariant)
+          (least_more graph b n w.index.result.now.last w.if-is_signalled.ensures (ap (λ (x : Seat _). x.last) (w.index.ensures ∙ read_any b.seats.items n w.index.result.now (no_seat (two 0 0)) n_in) ∙ c.requires.tallied.last n) c.loop-vertex.first c.loop-vertex.invariant)
       | else-is_signalled w ↦
           subst (IsFound graph b (n + 1)) (sym w.first-is) (quiet_more graph b n c.loop-vertex.first c.loop-vertex.invariant w.if-is_signalled.ensures)
     ]

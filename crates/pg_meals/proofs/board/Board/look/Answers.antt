@@ -21,7 +21,7 @@ returns-clause-acts g c = λ w d.
     let fork_is = c.index.ensures ∙ read_any b.forks.items e c.index.result.now (no_fork w) e_in in
     let known : c.shows-evidence.result ≡ ((actor_at b.actors.items a).evidence || clean_at (fork_at w b.forks.items e).mark.word c.in-Some.me)
     = c.shows-evidence.ensures ∙ ap (λ k. k || clean_at c.index.result.now.mark.word c.in-Some.me) (or_false c.index-record.result.now.evidence) ∙ (λ j. (actor_is j).evidence || clean_at (fork_is j).mark.word c.in-Some.me) in
-    let shown = look_shows w (seat_at d b.seats.items) b.forks.items (replicas_at b.replicas.items) b.actors.items b.turn b.journal.items a c.index-record.result.now c.shows-evidence.result c.requires.actor actor_is in (
+    let shown = look_shows w (seat_at d b.seats.items) b.forks.items (replicas_at b.replicas.items) b.actors.items b.turn b.journal.items a c.index-record.result.now c.shows-evidence.result _ c.requires.actor actor_is in (
       end_at c.args.graph.now c.in-Some.me e,
       c.in-Some.me,
       c.requires.edge,

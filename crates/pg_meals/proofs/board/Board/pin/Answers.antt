@@ -1,4 +1,4 @@
-use Rattle.std.proofs.Common.{ℕ, ◌<◌, ◌≡◌, ◌||◌, length, false, Some, None, refl, sym, ap, ◌∙◌, arith, true≢false}
+use Rattle.std.proofs.Common.{ℕ, ◌+◌, ◌<◌, ◌≡◌, ◌||◌, length, false, Some, None, refl, sym, ap, ◌∙◌, arith, true≢false}
 use Rattle.std.specs.Prelude.{is_some}
 use Rattle.pg_graph.specs.Multigraph.{end_at}
 use Rattle.pg_meals.specs.declared.actor.Actor.{Actor}
@@ -10,6 +10,7 @@ use Rattle.pg_meals.specs.Entries.{is_actor, no_fork, idle, seat_at, fork_at, ac
 use Rattle.pg_meals.specs.Shown.{core_of}
 use Rattle.pg_meals.proofs.ListReads.{read_any}
 use Rattle.pg_meals.proofs.Marking.{pin_shows, free_of}
+use Rattle.pg_meals.proofs.Tallied.{pins_more, stale_actor, left_of}
 use Rattle.pg_meals.proofs.board.Board.pin.Goals as goal
 
 pub returns-clause-acts : goal.returns-clause-acts
@@ -30,7 +31,7 @@ returns-clause-acts g c = λ w d.
     = c.shows-evidence.ensures ∙ (λ j. (actor_is j).evidence || found j || clean_at (fork_is j).mark.word c.in-Some.me) in
     let fresh : (actor_at b.actors.items a).committed ≡ false = ap (λ (z : Actor). z.committed) (sym actor_is) ∙ c.if-record.false in
     let unready : (x : Ready) → (actor_at b.actors.items a).ready ≡ Some x → ⊥ = λ x q. true≢false (sym (c.requires.board.ready w a (end_at c.args.graph.now c.in-Some.me e) e c.in-Some.me x q fresh busy c.requires.edge refl) ∙ ap (is_actor a) lone) in
-    let shown = pin_shows w (seat_at d b.seats.items) b.forks.items (replicas_at b.replicas.items) b.actors.items b.turn b.journal.items a e c.index-record.result.now c.index_mut.result.now c.in-Some-get.got.word c.in-Some-get.got.taken c.shows-evidence.result
+    let shown = pin_shows w (seat_at d b.seats.items) b.forks.items (replicas_at b.replicas.items) b.actors.items b.turn b.journal.items a e c.index-record.result.now c.index_mut.result.now c.in-Some-get.got.word c.in-Some-get.got.taken c.shows-evidence.result _
     c.requires.actor e_in actor_is now_is (ap (λ (z : Fork _). z.mark.pinner) now_is ∙ lone) unready in (
       end_at c.args.graph.now c.in-Some.me e,
       c.in-Some.me,
@@ -44,3 +45,20 @@ returns-clause-acts g c = λ w d.
       shown ∙ ap (λ k. record (core_of w d b) { words = pinned (core_of w d b).words a e c.in-Some-get.got.word c.in-Some-get.got.taken k }) known,
       refl,
     )
+
+pub returns-clause-tallied : goal.returns-clause-tallied
+returns-clause-tallied g c =
+    let b = c.args.self.now in
+    let a : ℕ = c.args.actor in
+    let e : ℕ = c.args.edge in
+    let counted = c.requires.board.tallied in
+    let e_in : e < length b.forks.items = omega (arith, c.requires.edge, c.requires.board.forks) in
+    let actor_is = c.index-record.ensures ∙ read_any b.actors.items a c.index-record.result.now idle c.requires.actor in
+    let fork_is = c.index.ensures ∙ read_any b.forks.items e c.index.result.now (no_fork 0) e_in in
+    let gets : got_of (fork_at 0 b.forks.items e).mark.word c.in-Some.me ≡ Some (got_in c.in-Some-get.got) = ap (λ (z : Fork _). got_of z.mark.word c.in-Some.me) (sym fork_is) ∙ c.in-Some-get.ensures in
+    let lone : (fork_at 0 b.forks.items e).mark.pinner ≡ None = c.requires.board.free 0 e (free_of (fork_at 0 b.forks.items e).mark.word c.in-Some.me (got_in c.in-Some-get.got) gets) in
+    record {
+      pinned = pins_more b.forks.items b.actors.items counted.pinned a e _ _ c.requires.actor e_in lone refl (ap (λ (z : Actor). z.pinned + 1) actor_is);
+      stale = stale_actor b.replicas.items b.actors.items counted.stale a _ c.requires.actor (left_of b.replicas.items b.actors.items a c.index-record.result.now counted.stale actor_is);
+      last = counted.last;
+    }

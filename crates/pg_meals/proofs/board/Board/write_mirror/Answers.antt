@@ -1,18 +1,22 @@
-use Rattle.std.proofs.Common.{ℕ, ◌<◌, ◌≡◌, length, slice_index_or, slice_set, true, false, Some, refl, sym, ap, subst, ◌∙◌, arith, true≢false}
+use Rattle.std.proofs.Common.{ℕ, ◌-◌, ◌<◌, ◌≡◌, length, slice_index_or, slice_set, true, false, Some, refl, sym, ap, subst, ◌∙◌, arith, true≢false}
 use Rattle.std.specs.Prelude.{Vec}
 use Rattle.std.specs.Vec.{with_item}
 use Rattle.std.proofs.lemmas.Grind.{common_steps}
 use Rattle.std.specs.declared.alloc.Global.{Global}
+use Rattle.pg_law.specs.Values.{two}
 use Rattle.pg_meals.specs.declared.seat.Seat.{Seat}
 use Rattle.pg_meals.specs.declared.seat.Replica.{Replica}
 use Rattle.pg_meals.specs.declared.actor.Actor.{Actor}
 use Rattle.pg_meals.specs.Acts.{written_core}
 use Rattle.pg_meals.specs.Entries.{no_seat, idle, seat_at, fork_at, actor_at, replicas_at, replica_in, homes}
 use Rattle.pg_meals.specs.Shown.{core_of, shape_on}
+use Rattle.pg_meals.specs.Tallies.{stale_among, left_to_write}
 use Rattle.pg_meals.proofs.At.{some_of}
 use Rattle.pg_meals.proofs.Rows.{not_true}
 use Rattle.pg_meals.proofs.ListReads.{read_any}
 use Rattle.pg_meals.proofs.Marking.{not_false}
+use Rattle.pg_meals.proofs.Showing.{left_shows}
+use Rattle.pg_meals.proofs.Tallied.{pins_actor, left_of, one_stale, one_written, stale_row}
 use Rattle.pg_meals.proofs.Written.{found, home_of, fresh_written, stale_unwritten}
 use Rattle.pg_meals.proofs.Copied.{row_at, copy_shows, second_unwritten, homes_after}
 use Rattle.pg_meals.proofs.board.Board.write_mirror.Goals as goal
@@ -23,6 +27,25 @@ home-requires g c =
     let actor_is = c.index-record.ensures ∙ read_any b.actors.items c.args.actor c.index-record.result.now idle c.requires.actor in
     let inside = c.requires.board.inside c.args.actor c.in-Some.vertex (ap (λ (z : Actor). z.vertex) (sym actor_is) ∙ c.in-Some.is) in
     omega (arith, inside, c.requires.board.replicas)
+
+pub overflow_sub-record : goal.overflow_sub-record
+overflow_sub-record g c =
+    let b = c.args.self.now in
+    let a : ℕ = c.args.actor in
+    let v : ℕ = c.in-Some.vertex in
+    let i : ℕ = c.in-Some-home.place in
+    let x = c.index-replica.result.now in
+    let counted = c.requires.board.tallied in
+    let actor_is = c.index-record.ensures ∙ read_any b.actors.items a c.index-record.result.now idle c.requires.actor in
+    let inside = c.requires.board.inside a v (ap (λ (z : Actor). z.vertex) (sym actor_is) ∙ c.in-Some.is) in
+    let v_in : v < length b.replicas.items = omega (arith, inside, c.requires.board.replicas) in
+    let row = replicas_at b.replicas.items v in
+    let item_is : x ≡ slice_index_or row i x
+    = c.index-replica.ensures ∙ (ap (λ (r : Vec Replica Global). slice_index_or r.items i x) c.index-2.ensures ∙ ap (λ xs. slice_index_or xs i x) (sym (row_at b.replicas.items v c.index-2.result.now v_in))) in
+    let stale : (slice_index_or row i x).stale ≡ true = ap (λ (r : Replica). r.stale) (sym item_is) ∙ not_false x.stale c.if-not-replica.false in
+    let left : c.index-record.result.now.stale ≡ stale_among row
+    = left_of b.replicas.items b.actors.items a c.index-record.result.now counted.stale actor_is ∙ (λ j. left_to_write (c.in-Some.is j) (not_false c.index-record.result.now.committed c.if-not-record.false j) (replicas_at b.replicas.items)) in
+    omega (arith, left, one_stale row i x c.in-Some-home.ensures.0 stale)
 
 pub returns-then-not-replica-clause-refused : goal.returns-then-not-replica-clause-refused
 returns-then-not-replica-clause-refused g c = λ n h w d core out step.
@@ -77,7 +100,8 @@ returns-clause-acts g c = λ w d.
         no_turn,
         spans,
         second_unwritten (seat_at d b.seats.items) (fork_at w b.forks.items) b.replicas.items (actor_at b.actors.items) b.turn b.journal.items a v k i (with_item c.index_mut.result.now i (record { worker = k; datum = c.index.result.now.datum; stale = false })) c.index.result.now.datum x v_in row_is c.in-Some-home.ensures.0 (c.in-Some-home.ensures.1 x) (c.requires.board.once v) seat_is busy committed alone unwritten,
-        copy_shows (seat_at d b.seats.items) (fork_at w b.forks.items) b.replicas.items (actor_at b.actors.items) b.turn b.journal.items a v k i (with_item c.index_mut.result.now i (record { worker = k; datum = c.index.result.now.datum; stale = false })) c.index.result.now.datum x v_in row_is c.in-Some-home.ensures.0 (c.in-Some-home.ensures.1 x) (c.requires.board.once v) seat_is busy committed alone,
+        left_shows (seat_at d b.seats.items) (fork_at w b.forks.items) (replicas_at (slice_set b.replicas.items v (with_item c.index_mut.result.now i (record { worker = k; datum = c.index.result.now.datum; stale = false })))) b.actors.items b.turn b.journal.items a (c.index-record.result.now.stale - 1) c.index-record.result.now c.requires.actor actor_is
+            ∙ copy_shows (seat_at d b.seats.items) (fork_at w b.forks.items) b.replicas.items (actor_at b.actors.items) b.turn b.journal.items a v k i (with_item c.index_mut.result.now i (record { worker = k; datum = c.index.result.now.datum; stale = false })) c.index.result.now.datum x v_in row_is c.in-Some-home.ensures.0 (c.in-Some-home.ensures.1 x) (c.requires.board.once v) seat_is busy committed alone,
         refl,
       ),
     )
@@ -101,5 +125,33 @@ returns-clause-frame g c =
       seats = refl;
       replicas = grind (arith, common_steps);
       forks = refl;
-      actors = refl;
+      actors = grind (arith, common_steps);
+    }
+
+pub returns-clause-tallied : goal.returns-clause-tallied
+returns-clause-tallied g c =
+    let b = c.args.self.now in
+    let a : ℕ = c.args.actor in
+    let v : ℕ = c.in-Some.vertex in
+    let i : ℕ = c.in-Some-home.place in
+    let x = c.index-replica.result.now in
+    let counted = c.requires.board.tallied in
+    let actor_is = c.index-record.ensures ∙ read_any b.actors.items a c.index-record.result.now idle c.requires.actor in
+    let busy : (actor_at b.actors.items a).vertex ≡ Some v = ap (λ (z : Actor). z.vertex) (sym actor_is) ∙ c.in-Some.is in
+    let committed = not_false c.index-record.result.now.committed c.if-not-record.false in
+    let inside = c.requires.board.inside a v busy in
+    let v_in : v < length b.replicas.items = omega (arith, inside, c.requires.board.replicas) in
+    let row = replicas_at b.replicas.items v in
+    let item_is : x ≡ slice_index_or row i x
+    = c.index-replica.ensures ∙ (ap (λ (r : Vec Replica Global). slice_index_or r.items i x) c.index-2.ensures ∙ ap (λ xs. slice_index_or xs i x) (sym (row_at b.replicas.items v c.index-2.result.now v_in))) in
+    let stale : (slice_index_or row i x).stale ≡ true = ap (λ (r : Replica). r.stale) (sym item_is) ∙ not_false x.stale c.if-not-replica.false in
+    let y : Replica = record { worker = c.args.worker; datum = c.index.result.now.datum; stale = false } in
+    let row_is = ap (λ xs. slice_set xs i y) (ap (λ (r : Vec Replica Global). r.items) c.index_mut.ensures.value ∙ sym (row_at b.replicas.items v c.index_mut.result.now v_in)) in
+    let left : c.index-record.result.now.stale ≡ stale_among row = left_of b.replicas.items b.actors.items a c.index-record.result.now counted.stale actor_is ∙ (λ j. left_to_write (c.in-Some.is j) (committed j) (replicas_at b.replicas.items)) in
+    let alone : (o : ℕ) → (actor_at b.actors.items o).vertex ≡ Some v → o ≡ a = λ o q. some_of o a (sym (c.requires.board.names (two 0 0) o v q) ∙ c.requires.board.names (two 0 0) a v busy) in
+    record {
+      pinned = pins_actor b.forks.items b.actors.items counted.pinned a _ c.requires.actor (ap (λ (z : Actor). z.pinned) actor_is);
+      stale = stale_row b.replicas.items b.actors.items counted.stale a _ c.requires.actor v (with_item c.index_mut.result.now i y) v_in c.in-Some.is committed
+          (ap (λ n. n - 1) left ∙ sym (ap stale_among row_is ∙ one_written row i y x c.in-Some-home.ensures.0 stale refl)) alone;
+      last = counted.last;
     }

@@ -10,7 +10,7 @@ step-requires-clause-board g c = board_is (g.P.VertexProgram.meaning c.self.insi
 
 pub invariant_of-self : goal.invariant_of-self
 invariant_of-self g c = (
-  step_carries (g.P.VertexProgram.meaning c.self.inside.program.now) c.laws_of.ensures c.self.inside.graph.now c.self.inside.opening c.self.inside.board c.step.new.self c.args.actor c.args.act c.step.result c.self.invariant.0 c.step.ensures.acts c.step.ensures.frame,
+  step_carries (g.P.VertexProgram.meaning c.self.inside.program.now) c.laws_of.ensures c.self.inside.graph.now c.self.inside.opening c.self.inside.board c.step.new.self c.args.actor c.args.act c.step.result c.self.invariant.0 c.step.ensures.acts c.step.ensures.frame c.step.ensures.tallied,
   subst (λ k. HasRoom c.self.inside.graph.now k c.self.inside.room) (sym c.step.ensures.frame.caches) c.self.invariant.1,
 )
 
