@@ -85,60 +85,35 @@ pub fn judge_named<S: Source, L: Ledger>(
         (S.faults input.old) (S.faults input.new) steps.old steps.new result }
 {
     match job.program {
-        ProgramName::Components => judge(
-            alloc,
-            &Components::new(),
-            graph,
-            job,
-            header,
-            cutter,
-            input,
-            limits,
-            steps,
-        ),
-        ProgramName::Colour => judge(
-            alloc,
-            &Colour::new(),
-            graph,
-            job,
-            header,
-            cutter,
-            input,
-            limits,
-            steps,
-        ),
-        ProgramName::Sssp { source } => judge(
-            alloc,
-            &Sssp::new(source),
-            graph,
-            job,
-            header,
-            cutter,
-            input,
-            limits,
-            steps,
-        ),
-        ProgramName::Rank { tolerance } => judge(
-            alloc,
-            &PageRank::new(tolerance),
-            graph,
-            job,
-            header,
-            cutter,
-            input,
-            limits,
-            steps,
-        ),
-        ProgramName::Tree { source } => judge(
-            alloc,
-            &Tree::new(source),
-            graph,
-            job,
-            header,
-            cutter,
-            input,
-            limits,
-            steps,
-        ),
+        ProgramName::Components => {
+            let program = &Components::new();
+            judge(
+                alloc, program, graph, job, header, cutter, input, limits, steps,
+            )
+        }
+        ProgramName::Colour => {
+            let program = &Colour::new();
+            judge(
+                alloc, program, graph, job, header, cutter, input, limits, steps,
+            )
+        }
+        ProgramName::Sssp { source } => {
+            let program = &Sssp::new(source);
+            judge(
+                alloc, program, graph, job, header, cutter, input, limits, steps,
+            )
+        }
+        ProgramName::Rank { tolerance } => {
+            let program = &PageRank::new(tolerance);
+            judge(
+                alloc, program, graph, job, header, cutter, input, limits, steps,
+            )
+        }
+        ProgramName::Tree { source } => {
+            let program = &Tree::new(source);
+            judge(
+                alloc, program, graph, job, header, cutter, input, limits, steps,
+            )
+        }
     }
 }

@@ -1,5 +1,5 @@
 //! The line that tells a refusal.
-ghost use Rattle.std.specs.Prelude.{◌≡◌};
+ghost use Rattle.std.specs.Prelude.{◌≡◌, ◌++◌, decimal};
 ghost use Rattle.std.specs.List.{flat_map};
 ghost use Rattle.pg_base.specs.Writing.{Writes};
 ghost use Rattle.pg_main.specs.Statuses.{error_line, kind_text, limit_text};
@@ -21,6 +21,22 @@ pub fn write_parts<K: Sink>(sink: &mut K, parts: &[&[u8]]) -> Result<(), Failed>
     Ok(())
 }
 
+/// Writes a number between two texts.
+fn write_number<E: Sink>(
+    err: &mut E,
+    before: &[u8],
+    number: u64,
+    after: &[u8],
+) -> Result<(), Failed>
+    ensures { Writes (E.written err.old) (E.written err.new) (E.faults err.old) (E.faults err.new)
+        (before.now ++ decimal number ++ after.now) result }
+{
+    write_parts(
+        err,
+        &[before, Buffer::new().format(number).as_bytes(), after],
+    )
+}
+
 /// Tells a refusal: writes its line, or nothing where the answer has none.
 pub fn tell<E: Sink>(err: &mut E, status: Status) -> Result<(), Failed>
     ensures { Writes (E.written err.old) (E.written err.new) (E.faults err.old) (E.faults err.new)
@@ -30,42 +46,11 @@ pub fn tell<E: Sink>(err: &mut E, status: Status) -> Result<(), Failed>
         Status::Quiescent | Status::Spent | Status::Confirmed | Status::Reported => {
             write_whole(err, b"")
         }
-        Status::Usage { place } => write_parts(
-            err,
-            &[
-                b"usage: word ",
-                Buffer::new().format(place).as_bytes(),
-                b"\n",
-            ],
-        ),
-        Status::Text { line, kind } => write_parts(
-            err,
-            &[
-                b"line ",
-                Buffer::new().format(line).as_bytes(),
-                text_of_kind(kind),
-            ],
-        ),
-        Status::Limit { which, limit } => write_parts(
-            err,
-            &[
-                text_of_limit(which),
-                Buffer::new().format(limit).as_bytes(),
-                b"\n",
-            ],
-        ),
-        Status::NoVertex { id } => write_parts(
-            err,
-            &[b"no vertex ", Buffer::new().format(id).as_bytes(), b"\n"],
-        ),
-        Status::Rejected { line } => write_parts(
-            err,
-            &[
-                b"rejected at line ",
-                Buffer::new().format(line).as_bytes(),
-                b"\n",
-            ],
-        ),
+        Status::Usage { place } => write_number(err, b"usage: word ", u64::from(place), b"\n"),
+        Status::Text { line, kind } => write_number(err, b"line ", line, text_of_kind(kind)),
+        Status::Limit { which, limit } => write_number(err, text_of_limit(which), limit, b"\n"),
+        Status::NoVertex { id } => write_number(err, b"no vertex ", u64::from(id), b"\n"),
+        Status::Rejected { line } => write_number(err, b"rejected at line ", line, b"\n"),
         Status::ReadFault => write_whole(err, b"read fault\n"),
         Status::WriteFault => write_whole(err, b"write fault\n"),
         Status::Memory => write_whole(err, b"no memory\n"),
