@@ -248,14 +248,6 @@ fn a_worker_combines_its_signals(rt: HostRuntime) -> Result<(), Fail> {
     let signals = sent_by(alloc, &graph, &cut, 0, &state, carries.as_slice(), false)?;
     assert_eq!(rt; signals.len(), 1);
     assert_eq!(rt; told(&signals[0]), (2, Some(2), None));
-    let mut combined = Vec::new(alloc);
-    combined.push(signals)?;
-    let mut messages = [None, Some(5), Some(7)];
-    deliver(alloc, &Components, combined, &mut messages, &mut [])?;
-    assert_eq!(rt; messages, [None, Some(5), Some(2)]);
-    let mut again = [None, Some(5), Some(7)];
-    deliver(alloc, &Components, sent, &mut again, &mut [])?;
-    assert_eq!(rt; again, messages);
     Ok(())
 }
 
