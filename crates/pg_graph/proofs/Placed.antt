@@ -1,39 +1,26 @@
 -- Edges by the places of their ends: as ids are added, and as they are sorted.
-use Rattle.std.proofs.Common.{◌≡◌, ◌≢◌, ℕ, ◌+◌, ◌<◌, ◌≤◌, ◌^◌, true, false, List, [], ◌∷◌, ◌++◌, length, get_or, take, refl, sym, ◌∙◌, ap, inl, inr, arith}
-use Rattle.std.specs.Prelude.{nat_eq, All, IfSome, IfOk, Result, Ok, Err, is_err, Option, Some, None, map, position, slice_get}
+use Rattle.std.proofs.Common.{◌≡◌, ◌≢◌, ℕ, ◌+◌, ◌<◌, ◌≤◌, ◌^◌, true, false, List, [], ◌∷◌, ◌++◌, length, get_or, refl, sym, ◌∙◌, ap, inl, inr, true≢false, arith}
+use Rattle.std.specs.Prelude.{nat_eq, All, IfOk, Result, Ok, Err, is_err, map, slice_set}
 use Rattle.std.specs.List.{list_any, IsDistinct}
 use Rattle.std.specs.List.Sorted.{IsPermutation, IsStrictlyIncreasing}
 use Rattle.std.specs.Cmp.{nat_eq_equiv}
-use Rattle.std.proofs.lemmas.Bool.{cases_Bool, cases_lt, eqb-true}
-use Rattle.std.proofs.lemmas.List.{length_push, length-map, get_or-map, get_or_append_left, get_or_push, get_or-take, length-take-le, map_push}
+use Rattle.std.proofs.lemmas.Bool.{cases_Bool, cases_lt, cases_order, eq-eqb}
+use Rattle.std.proofs.lemmas.List.{length_push, length-map, get_or-map, get_or_append_left, get_or-set_same, get_or-set_other, length-set, map_push}
 use Rattle.std.proofs.lemmas.List.Elements.{All-head, All-tail, All-push, All-map, Contains-get_or}
-use Rattle.std.proofs.lemmas.List.Quantifiers.{position-Some}
 use Rattle.std.proofs.lemmas.List.Sorted.{list_any-IsPermutation}
 use Rattle.std.proofs.lemmas.Map.Views.{list_any-from_Contains}
-use Rattle.std.proofs.lemmas.Option.{get_or_from_slice_get}
+use Rattle.std.proofs.lemmas.Map.Keys.{apart_from_distinct, sorted_from_strictly_increasing, below_from_sorted}
 use Rattle.pg_base.specs.declared.limits.Limits.{Limits}
 use Rattle.pg_base.specs.Limits.{IsWithinStandard}
 use Rattle.pg_graph.specs.declared.edge.Edge.{Edge}
-use Rattle.pg_graph.specs.declared.recent.Note.{Note}
 use Rattle.pg_graph.specs.Multigraph.{IsMultigraph, multigraph}
-use Rattle.pg_graph.specs.Building.{Building, building, with_id, ids_with, with_vertex, named_edge, named, renumbered, IsBuilding, IsKept, IsNoted, IsPlaced, StandsAt, AreRanks}
-use Rattle.pg_graph.proofs.Built.{distinct_with, all_with, named_still, built_more, among, numbered}
+use Rattle.pg_graph.specs.Building.{Building, building, with_id, ids_with, with_vertex, named_edge, named, renumbered, IsBuilding, IsKept, IsPlaced, StandsAt, AreRanks}
+use Rattle.pg_graph.proofs.Built.{distinct_with, all_with, named_still, built_more, among, numbered, among_at}
 
 -- what holds of a success
 pub from_ok : {X E : Type 0} (r : Result X E) (Q : Type 0) → is_err r ≡ false → IfOk r (λ x. Q) → Q
 from_ok (Ok x) Q h holds = holds
 from_ok (Err e) Q h holds = absurd (cc)
-
--- a place that a search found
-pub found_at : (ids : List ℕ) (id : ℕ) (r : Option ℕ) → r ≡ position (nat_eq id) ids → IfSome r (λ place. StandsAt ids id place)
-found_at ids id None is = tt
-found_at ids id (Some place) is =
-    let at = position-Some (nat_eq id) ids place 0 (sym is) in
-    record { within = at.0; found = sym (eqb-true id (get_or ids place 0) at.1) }
-
--- a place where an equal id is stored
-pub stored_at : (ids : List ℕ) (id place stored : ℕ) → place < length ids → slice_get ids place ≡ Some stored → nat_eq id stored ≡ true → StandsAt ids id place
-stored_at ids id place stored within is same = record { within = within; found = get_or_from_slice_get ids place stored 0 is ∙ sym (eqb-true id stored same) }
 
 -- an id that stands somewhere is there, so nothing is added
 pub already_with : (ids : List ℕ) (id place : ℕ) → StandsAt ids id place → with_id ids id ≡ ids
@@ -65,13 +52,6 @@ still_at ids other place within = elim (cases_Bool (list_any (nat_eq other) ids)
 
 pub stands_still : (ids : List ℕ) (other id place : ℕ) → StandsAt ids id place → StandsAt (with_id ids other) id place
 stands_still ids other id place at = record { within = omega (arith, at.within, longer_with ids other); found = still_at ids other place at.within ∙ at.found }
-
--- what is noted stays true
-pub noted_with : (ids : List ℕ) (id : ℕ) (notes : List Note) → All (IsNoted ids) notes → All (IsNoted (with_id ids id)) notes
-noted_with ids id notes each = λ k d h some. stands_still ids id (get_or notes k d).id (get_or notes k d).place (each k d h some)
-
-pub noted_more : (ids keys : List ℕ) (src dst : ℕ) (notes : List Note) → keys ≡ ids_with ids src dst → All (IsNoted ids) notes → All (IsNoted keys) notes
-noted_more ids keys src dst notes is each = rw is (noted_with (with_id ids src) dst notes (noted_with ids src notes each))
 
 -- nothing was added yet
 pub nothing_kept : (limits : Limits) → IsWithinStandard limits → IsKept limits [] [] 0
@@ -168,28 +148,62 @@ pub sorted_has : (ids sorted : List ℕ) (place : ℕ) → IsPermutation ids sor
 sorted_has ids sorted place same within =
     sym (list_any-IsPermutation (nat_eq (get_or ids place 0)) ids sorted same) ∙ list_any-from_Contains nat_eq_equiv (get_or ids place 0) ids (Contains-get_or ids place 0 within)
 
+-- and so each sorted id among the ids
+pub sorted_in : (ids sorted : List ℕ) (rank : ℕ) → IsPermutation ids sorted → rank < length sorted → list_any (nat_eq (get_or sorted rank 0)) ids ≡ true
+sorted_in ids sorted rank same within =
+    list_any-IsPermutation (nat_eq (get_or sorted rank 0)) ids sorted same ∙ list_any-from_Contains nat_eq_equiv (get_or sorted rank 0) sorted (Contains-get_or sorted rank 0 within)
+
+-- the ranks below a number are written at the places of their ids
+pub record AreRanked (ids sorted ranks : List ℕ) (next : ℕ) : Type 0 where
+  pub count : length ranks ≡ length ids
+  pub rank : (place k : ℕ) → place < length ids → k < next → get_or sorted k 0 ≡ get_or ids place 0 → get_or ranks place 0 ≡ k
+
+-- two places of one id, among ids that are distinct, are the same
+one_place : (ids : List ℕ) (i j : ℕ) → IsDistinct nat_eq ids → i < length ids → j < length ids → get_or ids i 0 ≡ get_or ids j 0 → i ≡ j
+one_place ids i j distinct i_in j_in same = elim (cases_order i j) [
+  | inl equal ↦ equal
+  | inr (inl below) ↦ absurd (true≢false (sym (eq-eqb _ _ same) ∙ apart_from_distinct nat_eq ids i j 0 distinct below j_in))
+  | inr (inr above) ↦ absurd (true≢false (sym (eq-eqb _ _ (sym same)) ∙ apart_from_distinct nat_eq ids j i 0 distinct above i_in))
+]
+
 -- one more rank
-pub ranks_more : (ids sorted ranks now : List ℕ) (i rank : ℕ) → i < length ids → AreRanks (take i ids) sorted ranks → rank < length sorted → get_or sorted rank 0 ≡ get_or ids i 0 → now ≡ ranks ++ rank ∷ [] → AreRanks (take (i + 1) ids) sorted now
-ranks_more ids sorted ranks now i rank inside so_far within found is =
-    let before = length-take-le i ids (omega arith) in
-    let after = length-take-le (i + 1) ids (omega arith) in
-    let count = so_far.count in
-    record {
-      count = omega (arith, ap length is, length_push ranks rank);
-      rank = λ place h. elim (cases_lt place i) [
-        | inl below ↦
-            let old = so_far.rank place (omega arith) in
-            let same_rank = ap (λ xs. get_or xs place 0) is ∙ get_or_append_left ranks (rank ∷ []) 0 place (omega arith) in
-            let same_id = get_or-take i ids place 0 below in
-            let same_id_now = get_or-take (i + 1) ids place 0 (omega arith) in
-            record { within = omega (arith, old.within); found = ap (λ k. get_or sorted k 0) same_rank ∙ old.found ∙ same_id ∙ sym same_id_now }
+module _ (ids sorted ranks : List ℕ) (i at : ℕ) (distinct : IsDistinct nat_eq ids) (rising : IsStrictlyIncreasing sorted) (inside : i < length sorted) (so_far : AreRanked ids sorted ranks i)
+    (stands : StandsAt ids (get_or sorted i 0) at) where
+  pub ranked_more : AreRanked ids sorted (slice_set ranks at i) (i + 1)
+  ranked_more =
+      let in_ranks : at < length ranks = omega (arith, stands.within, so_far.count) in
+      record {
+        count = length-set ranks at i ∙ so_far.count;
+        rank = λ place k p l same. elim (cases_order place at) [
+          | inl here ↦ ap (λ n. get_or (slice_set ranks at i) n 0) here ∙ get_or-set_same ranks at i 0 in_ranks ∙ sym (one_rank k l (same ∙ (ap (λ n. get_or ids n 0) here ∙ stands.found)))
+          | inr (inl below) ↦ other place k p l same (λ e. omega (arith, below, e))
+          | inr (inr above) ↦ other place k p l same (λ e. omega (arith, above, e))
+        ];
+      }
+    where
+      one_rank : (k : ℕ) → k < i + 1 → get_or sorted k 0 ≡ get_or sorted i 0 → k ≡ i
+      one_rank k l same = elim (cases_lt k i) [
+        | inl below ↦ let less = below_from_sorted sorted k i 0 (sorted_from_strictly_increasing sorted rising) below inside in absurd (omega (arith, less, same))
+        | inr last ↦ omega (arith, last, l)
+      ]
+
+      other : (place k : ℕ) → place < length ids → k < i + 1 → get_or sorted k 0 ≡ get_or ids place 0 → place ≢ at → get_or (slice_set ranks at i) place 0 ≡ k
+      other place k p l same apart = elim (cases_lt k i) [
+        | inl below ↦ get_or-set_other ranks at place i 0 apart ∙ so_far.rank place k p below same
         | inr last ↦
-            let here : place ≡ i = omega arith in
-            let rank_is = ap (λ xs. get_or xs place 0) is ∙ get_or_push ranks rank 0 place (omega arith) in
-            let id_is = get_or-take (i + 1) ids place 0 (omega arith) in
-            record { within = omega arith; found = ap (λ k. get_or sorted k 0) rank_is ∙ found ∙ ap (λ k. get_or ids k 0) (sym here) ∙ sym id_is }
-      ];
-    }
+            let k_is : k ≡ i = omega (arith, last, l) in
+            absurd (apart (one_place ids place at distinct p stands.within (sym same ∙ (ap (λ n. get_or sorted n 0) k_is ∙ sym stands.found))))
+      ]
+
+-- once all are written, each place has the rank of its id
+pub all_ranked : (ids sorted ranks : List ℕ) → IsPermutation ids sorted → AreRanked ids sorted ranks (length sorted) → AreRanks ids sorted ranks
+all_ranked ids sorted ranks same ranked = record {
+  count = ranked.count;
+  rank = λ place p.
+      let at = among_at sorted (get_or ids place 0) (sorted_has ids sorted place same p) in
+      let rank_is = ranked.rank place at.0 p at.1 at.2 in
+      record { within = omega (arith, rank_is, at.1); found = ap (λ n. get_or sorted n 0) rank_is ∙ at.2 };
+}
 
 -- edges that are numbered by the ranks of their ends keep their names
 module _ (ids sorted ranks : List ℕ) (are : AreRanks ids sorted ranks) where
