@@ -25,7 +25,7 @@ use Rattle.pg_meals.specs.Carrying.{setting_of, core_by, IsKept}
 use Rattle.pg_meals.specs.Readied.{is_seen, sees_over, SeesEach, MissesOne}
 use Rattle.pg_meals.proofs.At.{false_test}
 use Rattle.pg_meals.proofs.Settings.{plain}
-use Rattle.pg_meals.proofs.Holding.{around_all}
+use Rattle.pg_meals.proofs.Holding.{any_passing, each_by_place, around_all}
 use Rattle.pg_meals.proofs.Seen.{fork_same, side_end}
 
 both_true : (x y : Bool) → (x && y) ≡ true → (x ≡ true) × (y ≡ true)
@@ -114,6 +114,13 @@ module _ {A C : Type 0} (p : Program A C) (law : IsLawful p) (g : Multigraph) (s
       here e i q =
           let k = may.all (side_at g v e) e i q in
           seen_is e i ∙ is_both _ _ k (noted_looks _ _ _ (λ used. noted_half a (mark e) k (may.noted (side_at g v e) e i q used).0))
+
+  -- who sees each, by whatever directions, has pinned all forks
+  pub sees_pins : (gathers scatters : Dir) → SeesEach gathers scatters g b.forks.items a v (edges_at g v) → (e : ℕ) → e < length g.edges → is_at v (edge_at g e) ≡ true → (c.words.grip a).pins e ≡ true
+  sees_pins gathers scatters each e i at =
+      let P : ℕ → Type 0 = λ d. sees_over gathers scatters g b.forks.items a v d ≡ true in
+      let here : P e = any_passing P (λ d. is_at v (edge_at g d)) (length g.edges) (each_by_place P (edges_at g v) each) e i at in
+      ap (λ (f : Fork A). is_actor a f.mark.pinner) (sym (fork_same p law g s b kept e i)) ∙ (both_true _ _ here).0
 
   -- the same by directions that are the program's
   module _ (gathers scatters : Dir) (gs : gathers ≡ p.gather_edges) (ss : scatters ≡ p.scatter_edges) where

@@ -29,6 +29,11 @@ fold_one_more f z test n =
     let goal : ℕ → Type 0 = λ k. fold f z (filter test (range_with_len 0 k)) ≡ cond (test n) (f (fold f z (filter test (range_with_len 0 n))) n) (fold f z (filter test (range_with_len 0 n))) in
     subst goal (add-one n) (fold_filter_more f z test n)
 
+-- one more number, whose part is known where it passes
+one_alike : {B X : Type 0} (f : B → X → B) (t : Bool) (b d : B) (x y : X) → b ≡ d → (t ≡ true → x ≡ y) → cond t (f b x) b ≡ cond t (f d y) d
+one_alike f true b d x y before same = λ j. f (before j) (same refl j)
+one_alike f false b d x y before same = before
+
 -- values that are joined one after another
 module _ {X : Type 0} {P : X → Type 0} {add : X → X → X} {unit : X} (m : IsCommutativeMonoid P unit add) where
   right_unit : (a : X) → P a → add a unit ≡ a
@@ -42,7 +47,7 @@ module _ {X : Type 0} {P : X → Type 0} {add : X → X → X} {unit : X} (m : I
   passing_total_own test y zero own = m.unit_own
   passing_total_own test y (suc n) own = m.closed _ _ (passing_total_own test y n (λ e i. own e (omega arith))) (passing_own (test n) (y n) (own n (omega arith)))
 
-  pub joined_along : (test : ℕ → Bool) (x y : ℕ → X) (z : X) (n : ℕ) → P z → ((e : ℕ) → e < n → P (y e)) → ((e : ℕ) → e < n → x e ≡ y e)
+  pub joined_along : (test : ℕ → Bool) (x y : ℕ → X) (z : X) (n : ℕ) → P z → ((e : ℕ) → e < n → P (y e)) → ((e : ℕ) → e < n → test e ≡ true → x e ≡ y e)
       → fold (λ b e. add b (x e)) z (filter test (range_with_len 0 n)) ≡ add z (total add unit (λ e. cond (test e) (y e) unit) n)
   joined_along test x y z zero zo own same = sym (right_unit z zo)
   joined_along test x y z (suc n) zo own same =
@@ -50,7 +55,7 @@ module _ {X : Type 0} {P : X → Type 0} {add : X → X → X} {unit : X} (m : I
       let old : X = fold (λ b e. add b (x e)) z (filter test (range_with_len 0 n)) in
       let before : old ≡ add z rest = joined_along test x y z n zo (λ e i. own e (omega arith)) (λ e i. same e (omega arith)) in
       let rest_own : P rest = passing_total_own test y n (λ e i. own e (omega arith)) in
-      fold_one_more (λ b e. add b (x e)) z test n ∙ (λ j. cond (test n) (add (before j) (same n (omega arith) j)) (before j)) ∙ step rest rest_own (test n)
+      fold_one_more (λ b e. add b (x e)) z test n ∙ one_alike add (test n) old (add z rest) (x n) (y n) before (same n (omega arith)) ∙ step rest rest_own (test n)
     where
       step : (rest : X) → P rest → (t : Bool) → cond t (add (add z rest) (y n)) (add z rest) ≡ add z (add rest (cond t (y n) unit))
       step rest own_rest true = m.assoc z rest (y n) zo own_rest (own n (omega arith))
@@ -110,14 +115,15 @@ module _ {A C : Type 0} (p : Program A C) (law : IsLawful p) where
       go false o = tt
 
   -- and after those of a list
-  pub added_all : (test : ℕ → Bool) (x y : ℕ → Delta A) (o : Option A) (n : ℕ) → IfSome o p.IsAcc → ((e : ℕ) → e < n → IsDelta p.IsAcc (y e)) → ((e : ℕ) → e < n → x e ≡ y e)
+  pub added_all : (test : ℕ → Bool) (x y : ℕ → Delta A) (o : Option A) (n : ℕ) → IfSome o p.IsAcc → ((e : ℕ) → e < n → IsDelta p.IsAcc (y e)) → ((e : ℕ) → e < n → test e ≡ true → x e ≡ y e)
       → fold (λ b e. added p.sum b (x e)) o (filter test (range_with_len 0 n)) ≡ added p.sum o (total (joined p.sum) Nothing (λ e. cond (test e) (y e) Nothing) n)
   added_all test x y o zero oo own same = sym (added_nothing o)
   added_all test x y o (suc n) oo own same =
       let rest : Delta A = total (joined p.sum) Nothing (λ e. cond (test e) (y e) Nothing) n in
-      let before : fold (λ b e. added p.sum b (x e)) o (filter test (range_with_len 0 n)) ≡ added p.sum o rest = added_all test x y o n oo (λ e i. own e (omega arith)) (λ e i. same e (omega arith)) in
+      let old : Option A = fold (λ b e. added p.sum b (x e)) o (filter test (range_with_len 0 n)) in
+      let before : old ≡ added p.sum o rest = added_all test x y o n oo (λ e i. own e (omega arith)) (λ e i. same e (omega arith)) in
       let rest_own : IsDelta p.IsAcc rest = waits_own test y n (λ e i. own e (omega arith)) in
-      fold_one_more (λ b e. added p.sum b (x e)) o test n ∙ (λ j. cond (test n) (added p.sum (before j) (same n (omega arith) j)) (before j)) ∙ step rest rest_own (test n)
+      fold_one_more (λ b e. added p.sum b (x e)) o test n ∙ one_alike (added p.sum) (test n) old (added p.sum o rest) (x n) (y n) before (same n (omega arith)) ∙ step rest rest_own (test n)
     where
       step : (rest : Delta A) → IsDelta p.IsAcc rest → (t : Bool) → cond t (added p.sum (added p.sum o rest) (y n)) (added p.sum o rest) ≡ added p.sum o (joined p.sum rest (cond t (y n) Nothing))
       step rest own_rest true = added_joined o rest (y n) oo own_rest (own n (omega arith))

@@ -1,9 +1,10 @@
 -- A board after a fork went back shows the core after it.
-use Rattle.std.proofs.Common.{ℕ, ◌<◌, ◌≡◌, ◌≢◌, ◌&&◌, length, List, slice_set, false, Option, Some, None, refl, sym, ap, ◌∙◌}
+use Rattle.std.proofs.Common.{ℕ, ◌<◌, ◌≡◌, ◌≢◌, ◌&&◌, length, List, slice_set, false, cond, Option, Some, None, refl, sym, ap, ◌∙◌}
 use Rattle.std.proofs.lemmas.List.{get_or-set_same, get_or-set_other}
 use Rattle.pg_law.specs.declared.values.Datum.{Datum}
 use Rattle.pg_law.specs.declared.values.JournalEntry.{JournalEntry}
 use Rattle.pg_forks.specs.declared.fork_word.ForkWord.{ForkWord}
+use Rattle.pg_meals.specs.declared.fork.Carried.{Carried}
 use Rattle.pg_meals.specs.declared.fork.Fork.{Fork}
 use Rattle.pg_meals.specs.declared.seat.Seat.{Seat}
 use Rattle.pg_meals.specs.declared.seat.Replica.{Replica}
@@ -12,16 +13,17 @@ use Rattle.pg_meals.specs.Families.{set_at}
 use Rattle.pg_meals.specs.Words.{Grip, backed}
 use Rattle.pg_meals.specs.Core.{Core, Notes}
 use Rattle.pg_meals.specs.Entries.{is_actor, no_fork, idle, fork_at, actor_at}
-use Rattle.pg_meals.specs.Shown.{content_of, half_noted, noted_by, written_of, grip_of, notes_of, core_from}
+use Rattle.pg_meals.specs.Shown.{carried, content_of, half_noted, noted_by, written_of, grip_of, notes_of, core_from}
 use Rattle.pg_meals.proofs.At.{false_test}
 use Rattle.pg_meals.proofs.ListReads.{read_as}
+use Rattle.pg_meals.proofs.Riding.{held_carries, carried_like}
 use Rattle.pg_meals.proofs.Showing.{as_set, kept, other_grip, other_notes}
 
-module _ {A : Type 0} (w : ℕ) (seats : ℕ → Seat A) (forks : List (Fork A)) (replicas : ℕ → List Replica) (actors : List Actor) (turn : Option ℕ) (journal : List JournalEntry) (a e : ℕ) (r : Actor) (f : Fork A) (word : ForkWord) (count : ℕ) (noted : Option Datum)
-    (a_in : a < length actors) (e_in : e < length forks) (r_is : r ≡ actor_at actors a) (f_is : f ≡ fork_at w forks e) (mine : f.mark.pinner ≡ Some a) where
+module _ {A : Type 0} (w : ℕ) (seats : ℕ → Seat A) (forks : List (Fork A)) (replicas : ℕ → List Replica) (actors : List Actor) (turn : Option ℕ) (journal : List JournalEntry) (a e : ℕ) (r : Actor) (f : Fork A) (word : ForkWord) (content spare : Carried A) (count : ℕ) (noted : Option Datum)
+    (a_in : a < length actors) (e_in : e < length forks) (r_is : r ≡ actor_at actors a) (f_is : f ≡ fork_at w forks e) (mine : f.mark.pinner ≡ Some a) (content_is : content ≡ cond r.committed f.prepared f.content) where
   -- what is noted in a fork that nobody has pinned isn't shown
   abbrev x : Fork A
-  x = record { mark = record { word = word; pinner = None; taken = false; noted = noted }; content = f.content; prepared = f.prepared }
+  x = record { mark = record { word = word; pinner = None; taken = false; noted = noted }; content = content; prepared = spare }
 
   abbrev y : Actor
   y = record r { ready = None; pinned = count }
@@ -69,6 +71,12 @@ module _ {A : Type 0} (w : ℕ) (seats : ℕ → Seat A) (forks : List (Fork A))
       }))
       (λ b n. ap (λ z. notes_of b z after seats replicas) (get_or-set_other actors a b y idle n) ∙ other_notes w forks e x f e_in f_is b (not_theirs b n) refl (actor_at actors b) seats replicas)
 
+  -- what rides on the fork is what it carried
+  carried_is : (k : ℕ) → carried acting (after k) ≡ carried (actor_at actors) (fork_at w forks k)
+  carried_is k =
+      carried_like actors a y a_in (ap (λ (z : Actor). z.committed) r_is) (after k)
+      ∙ kept w forks e x f e_in f_is (carried (actor_at actors)) k (content_is ∙ sym (held_carries (actor_at actors) f a r.committed mine (sym (ap (λ (z : Actor). z.committed) r_is))))
+
   pub back_shows : new ≡ record old { words = backed old.words a e word; notes = set_at old.notes a notes }
   back_shows = λ j. record {
     words = record {
@@ -78,7 +86,7 @@ module _ {A : Type 0} (w : ℕ) (seats : ℕ → Seat A) (forks : List (Fork A))
       grip = λ b. grip_is b j;
       journal = journal;
     };
-    content = λ k. kept w forks e x f e_in f_is (λ (z : Fork A). content_of z.content) k refl j;
+    content = λ k. content_of (carried_is k j);
     place = old.place;
     replica = old.replica;
     notes = λ b. notes_are b j;

@@ -15,9 +15,10 @@ use Rattle.pg_meals.specs.Core.{Core, empty_notes}
 use Rattle.pg_law.specs.Values.{two}
 use Rattle.pg_meals.specs.Entries.{is_actor, no_seat, idle, fork_at, seat_at, actor_at}
 use Rattle.pg_meals.specs.Boards.{IsBoard}
-use Rattle.pg_meals.specs.Shown.{place_of, half_noted, written_of, grip_of, notes_of, core_from}
+use Rattle.pg_meals.specs.Shown.{content_of, place_of, half_noted, written_of, grip_of, notes_of, core_from}
 use Rattle.pg_meals.proofs.At.{same_or_not, false_test}
 use Rattle.pg_meals.proofs.Marking.{prepared_like}
+use Rattle.pg_meals.proofs.Riding.{carried_other}
 use Rattle.pg_meals.proofs.ListReads.{read_set, read_as, read_like}
 
 -- whoever has no vertex in hand has pinned nothing
@@ -89,7 +90,7 @@ module _ {A : Type 0} (d : Datum) (seats : List (Seat A)) (forks : ℕ → Fork 
       grip = λ b. grip_is b (same_or_not b a) j;
       journal = journal;
     };
-    content = old.content;
+    content = λ e. content_of (carried_other actors a y a_in (forks e) (pins e) j);
     place = λ u. read_like place_of seats v x u (no_seat d) v_in (ap place_of is) j;
     replica = old.replica;
     notes = λ b. notes_are b (same_or_not b a) j;

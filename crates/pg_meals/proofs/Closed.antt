@@ -22,6 +22,7 @@ use Rattle.pg_delta.specs.Cell.{IsCell, cleared}
 use Rattle.pg_delta.specs.Deltas.{joined}
 use Rattle.pg_delta.specs.Truth.{IsTrueOf}
 use Rattle.pg_delta.proofs.Joining.{joined-nothing, delta_monoid}
+use Rattle.pg_meals.specs.declared.fork.Carried.{Carried}
 use Rattle.pg_meals.specs.declared.fork.Fork.{Fork}
 use Rattle.pg_meals.specs.declared.seat.Seat.{Seat}
 use Rattle.pg_meals.specs.declared.board.Board.{Board}
@@ -29,19 +30,21 @@ use Rattle.pg_cut.specs.Cut.{Division}
 use Rattle.pg_meals.specs.Families.{total}
 use Rattle.pg_meals.specs.Serial.{Serial, fresh}
 use Rattle.pg_meals.specs.Standing.{stands, message_at, delta_at, cell_in}
-use Rattle.pg_meals.specs.Listed.{any_datum}
+use Rattle.pg_meals.specs.Listed.{any_word, any_datum}
 use Rattle.pg_meals.specs.Setting.{cell_at}
-use Rattle.pg_meals.specs.Entries.{at_side, no_fork, no_seat, fork_at, seat_at}
-use Rattle.pg_meals.specs.Shown.{shape_on, cut_of}
+use Rattle.pg_meals.specs.Entries.{at_side, no_fork, no_seat, fork_at, seat_at, actor_at}
+use Rattle.pg_meals.specs.Shown.{carried, shape_on, cut_of}
 use Rattle.pg_meals.specs.Carrying.{setting_of, core_by, IsKept}
 use Rattle.pg_meals.specs.Tables.{AreCaches, state_of_board}
-use Rattle.pg_meals.specs.Closing.{for_end, ride_for, delivered, waits_on, waits_below, is_delta, cell_left, AreLeft}
+use Rattle.pg_meals.specs.Closing.{AllFree, for_end, ride_for, delivered, waits_on, waits_below, is_delta, cell_left, AreLeft}
 use Rattle.pg_meals.proofs.Totals.{total_like, total_unit}
 use Rattle.pg_meals.proofs.Gathers.{fresh_same, below_or_past}
 use Rattle.pg_meals.proofs.Settings.{state_is}
 use Rattle.pg_meals.proofs.Seen.{fork_same}
+use Rattle.pg_meals.proofs.Riding.{lone_carries, all_lone}
+use Rattle.pg_meals.proofs.Carried.{board_is}
 
-module _ {A C : Type 0} (p : Program A C) (law : IsLawful p) (g : Multigraph) (s : Configuration) (b : Board A) (kept : IsKept p g s b) where
+module _ {A C : Type 0} (p : Program A C) (law : IsLawful p) (g : Multigraph) (s : Configuration) (b : Board A) (kept : IsKept p g s b) (free : AllFree b.actors.items) where
   abbrev st : Serial
   st = stands p (shape_on g b) (core_by p b)
 
@@ -58,6 +61,12 @@ module _ {A C : Type 0} (p : Program A C) (law : IsLawful p) (g : Multigraph) (s
           ∙ (get_or-map-range_with_len (λ v. (seat_at (two 0 0) b.seats.items v).datum) 0 (length b.seats.items) k k (two 0 0) (omega (arith, i, kept.laid.seats)) (omega arith)
           ∙ ap (λ (x : Seat A). x.datum) (seat_same k i))
 
+  -- nobody has pinned a fork, so each carries its content
+  content_same : (e : ℕ) → e < length g.edges → (fork_at 0 b.forks.items e).content ≡ carried (actor_at b.actors.items) (fork_at (any_word p) b.forks.items e)
+  content_same e i =
+      ap (λ (x : Fork A). x.content) (fork_same p law g s b kept e i)
+      ∙ sym (lone_carries (actor_at b.actors.items) (fork_at (any_word p) b.forks.items e) (all_lone g b (board_is p g s b kept) free (any_word p) e))
+
   -- the words
   words_left : (words : List ℕ) → words ≡ map (λ (x : Fork A). x.content.word) b.forks.items → words ≡ map st.word (range_with_len 0 (length g.edges))
   words_left words is = fill_by_all st.word words (length g.edges) 0 (ap length is ∙ (length-map b.forks.items (λ (x : Fork A). x.content.word) ∙ kept.laid.forks)) each
@@ -66,10 +75,10 @@ module _ {A C : Type 0} (p : Program A C) (law : IsLawful p) (g : Multigraph) (s
       each k i =
           ap (λ xs. slice_index_or xs k 0) is
           ∙ (get_or-map (λ (x : Fork A). x.content.word) b.forks.items k (no_fork 0) 0 (omega (arith, i, kept.laid.forks))
-          ∙ ap (λ (x : Fork A). x.content.word) (fork_same p law g s b kept k i))
+          ∙ ap (λ (x : Carried A). x.word) (content_same k i))
 
   ride_same : (v e : ℕ) → e < length g.edges → ride_for g b.forks.items v e ≡ message_at (shape_on g b) (core_by p b).content v e
-  ride_same v e i = ap (λ (x : Fork A). for_end g v e x.content.source.message x.content.target.message None) (fork_same p law g s b kept e i)
+  ride_same v e i = ap (λ (x : Carried A). for_end g v e x.source.message x.target.message None) (content_same e i)
 
   -- the messages
   messages_left : (own messages : List (Option ℕ)) → own ≡ map (λ v. (seat_at (two 0 0) b.seats.items v).message) (range_with_len 0 (length b.seats.items)) → length messages ≡ length g.ids
@@ -116,7 +125,7 @@ module _ {A C : Type 0} (p : Program A C) (law : IsLawful p) (g : Multigraph) (s
       none Target = tt
 
       go : (e < length g.edges) ⊎ (length g.edges ≤ e) → IsOptional p.IsMessage (at_side t (fork_at 0 b.forks.items e).content).message
-      go (inl i) = subst (λ (x : Fork A). IsOptional p.IsMessage (at_side t x.content).message) (sym (fork_same p law g s b kept e i)) ((kept.stands.kept.true_of.content_fits e).message t)
+      go (inl i) = subst (λ (x : Carried A). IsOptional p.IsMessage (at_side t x).message) (sym (content_same e i)) ((kept.stands.kept.true_of.content_fits e).message t)
       go (inr l) = subst (λ (x : Fork A). IsOptional p.IsMessage (at_side t x.content).message) (sym (get_or_past b.forks.items e (no_fork 0) (omega (arith, l, kept.laid.forks)))) (none t)
 
   -- where no delta waits for a vertex, none is on its forks
@@ -140,7 +149,7 @@ module _ {A C : Type 0} (p : Program A C) (law : IsLawful p) (g : Multigraph) (s
 
   delta_none : (v e : ℕ) → e < length g.edges → waits_on g b.forks.items v e ≡ false → delta_at (shape_on g b) (core_by p b).content v e ≡ Nothing
   delta_none v e i t =
-      ap (λ (x : Fork A). for_end g v e x.content.source.delta x.content.target.delta Nothing) (sym (fork_same p law g s b kept e i))
+      ap (λ (x : Carried A). for_end g v e x.source.delta x.target.delta Nothing) (sym (content_same e i))
       ∙ go (end_at g Source e == v) refl (end_at g Target e == v) refl t
     where
       go : (k : Bool) → (end_at g Source e == v) ≡ k → (l : Bool) → (end_at g Target e == v) ≡ l

@@ -37,10 +37,10 @@ use Rattle.pg_meals.specs.Prepares.{applied_on, prepared_on, PreparesOn, IsDraft
 use Rattle.pg_meals.proofs.At.{some_of}
 use Rattle.pg_meals.proofs.Gathers.{below_or_past}
 use Rattle.pg_meals.proofs.Holding.{pins_are, at_is}
-use Rattle.pg_meals.proofs.Seen.{fork_same, side_end}
+use Rattle.pg_meals.proofs.Seen.{side_end}
 use Rattle.pg_meals.proofs.Plans.{planned_content}
 use Rattle.pg_meals.proofs.Along.{at_end_test}
-use Rattle.pg_meals.proofs.Due.{seat_same, near_is}
+use Rattle.pg_meals.proofs.Due.{seat_same, may_carry, near_is}
 use Rattle.pg_meals.proofs.Readied.{ready_shows}
 use Rattle.pg_meals.proofs.Settings.{preparing_keeps}
 use Rattle.pg_meals.proofs.Carried.{kept_by}
@@ -70,7 +70,7 @@ module _ {A C : Type 0} (p : Program A C) (law : IsLawful p) (g : Multigraph) (s
   planned_is : (e : ℕ) → e < length g.edges → is_at v (edge_at g e) ≡ true → content_of (planned_over p g b.forks.items v x e) ≡ sent e (side_at g v e)
   planned_is e i at =
       planned_content p shape (side_at g v e) (fork_at 0 b.forks.items e).content (p.scatter (near_over g b.forks.items x.datum v e) x.carry)
-      ∙ (λ j. content_after p shape (side_at g v e) (content_of (fork_same p law g s b kept e i j).content) (p.scatter (near_is p law g s b kept a v m may x.datum e i at j) x.carry))
+      ∙ (λ j. content_after p shape (side_at g v e) (content_of (may_carry p law g s b kept a v m may e i at j)) (p.scatter (near_is p law g s b kept a v m may x.datum e i at j) x.carry))
 
   content_is : (e : ℕ) → cond ((c.words.grip a).pins e) (content_of (planned_over p g b.forks.items v x e)) empty_content ≡ (prepared_on p g b a v m).content e
   content_is e = go ((c.words.grip a).pins e) refl
@@ -113,7 +113,7 @@ module _ {A C : Type 0} (p : Program A C) (law : IsLawful p) (g : Multigraph) (s
         (λ j. core_from (seat_at (any_datum p) (readied.seats j)) (fork_at (any_word p) b'.forks.items) (replicas_at (readied.replicas j).items) (actor_at (readied.actors j)) (readied.turn j) (readied.journal j).items)
         ∙ ready_shows (any_word p) (any_datum p) b.seats.items b.forks.items b'.forks.items b.replicas.items b.actors.items b.turn b.journal.items a v (edges_at g v)
         (actor_at b.actors.items a) draft.ready (seat_at (two 0 0) b.seats.items v) draft.cell (planned_over p g b.forks.items v x)
-        a_in (omega (arith, v_in, kept.laid.seats)) refl (seat_same p law g s b kept v v_in) readied.forks among may.busy alone
+        a_in (omega (arith, v_in, kept.laid.seats)) refl (seat_same p law g s b kept v v_in) readied.forks among may.busy may.fresh alone
         ∙ (λ j. record c { notes = set_at c.notes a (record (c.notes a) { prepared = Some (record { datum = is.datum j; again = is.again j; cell = is.cell j; content = λ e. content_is e j }) }) })
 
     pub draft_prepares : PreparesOn p g b a b'

@@ -1,5 +1,5 @@
 -- What a board shows to an actor that may prepare.
-use Rattle.std.proofs.Common.{ℕ, ◌<◌, ◌≡◌, ◌⊎◌, length, true, cond, Option, Some, None, arith, sym, ap, subst, ◌∙◌}
+use Rattle.std.proofs.Common.{ℕ, ◌<◌, ◌≡◌, ◌⊎◌, length, true, false, cond, Option, Some, None, arith, sym, ap, subst, ◌∙◌}
 use Rattle.std.specs.Prelude.{is_some}
 use Rattle.std.proofs.lemmas.List.{get_or_default}
 use Rattle.pg_graph.specs.Multigraph.{Multigraph, edge_at, end_at, side_at, is_at, edges_at, opposite, takes}
@@ -17,6 +17,7 @@ use Rattle.pg_law.proofs.Parts.{join_monoid}
 use Rattle.pg_delta.specs.declared.cell.CacheCell.{CacheCell}
 use Rattle.pg_delta.specs.Cell.{IsCell}
 use Rattle.pg_delta.specs.Deltas.{joined}
+use Rattle.pg_meals.specs.declared.fork.Carried.{Carried}
 use Rattle.pg_meals.specs.declared.fork.Fork.{Fork}
 use Rattle.pg_meals.specs.declared.board.Board.{Board}
 use Rattle.pg_meals.specs.Families.{total}
@@ -26,8 +27,8 @@ use Rattle.pg_meals.specs.Core.{Core}
 use Rattle.pg_meals.specs.Standing.{stands, message_at, delta_at, waiting}
 use Rattle.pg_meals.specs.Preparing.{MayPrepare, near_noted, noted_datum, gather_noted}
 use Rattle.pg_meals.specs.Listed.{any_word, any_datum, serial_of}
-use Rattle.pg_meals.specs.Entries.{at_side, no_seat, fork_at, seat_at}
-use Rattle.pg_meals.specs.Shown.{shape_on, cut_of, content_of, half_noted}
+use Rattle.pg_meals.specs.Entries.{at_side, no_seat, fork_at, seat_at, actor_at}
+use Rattle.pg_meals.specs.Shown.{carried, shape_on, cut_of, content_of, half_noted}
 use Rattle.pg_meals.specs.StandsFor.{IsContent}
 use Rattle.pg_meals.specs.Carrying.{setting_of, core_by, IsKept}
 use Rattle.pg_meals.specs.Sparing.{has_gather, cost, gather_degree}
@@ -37,6 +38,8 @@ use Rattle.pg_meals.proofs.Totals.{total_like}
 use Rattle.pg_meals.proofs.Gathers.{edge_is, message_own as serial_message_own}
 use Rattle.pg_meals.proofs.Settings.{plain, state_is}
 use Rattle.pg_meals.proofs.Around.{degree_is}
+use Rattle.pg_meals.proofs.Holding.{is_actor_of}
+use Rattle.pg_meals.proofs.Riding.{held_carries}
 use Rattle.pg_meals.proofs.Seen.{fork_same, side_end}
 use Rattle.pg_meals.proofs.Prepare.{gathered_is}
 use Rattle.pg_meals.proofs.Prepare as preparing
@@ -57,42 +60,53 @@ module _ {A C : Type 0} (p : Program A C) (law : IsLawful p) (g : Multigraph) (s
   pub seat_same : (v : ℕ) → v < length g.ids → seat_at (two 0 0) b.seats.items v ≡ seat_at (any_datum p) b.seats.items v
   seat_same v i = get_or_default b.seats.items v (no_seat (two 0 0)) (no_seat (any_datum p)) (omega (arith, i, kept.laid.seats))
 
-  -- what waits on a fork are values of the program
-  pub message_own : (v e : ℕ) → e < length g.edges → IsOptional p.IsMessage (ride_on g b.forks.items v e).message
-  message_own v e i = subst (λ (f : Fork A). IsOptional p.IsMessage (at_side (side_at g v e) f.content).message) (sym (fork_same p law g s b kept e i)) ((kept.stands.kept.true_of.content_fits e).message (side_at g v e))
+  -- the fork of each edge of v carries its content
+  abbrev pub CarriesOwn : ℕ → Type 0
+  CarriesOwn v = (e : ℕ) → e < length g.edges → is_at v (edge_at g e) ≡ true → (fork_at 0 b.forks.items e).content ≡ carried (actor_at b.actors.items) (fork_at (any_word p) b.forks.items e)
 
-  pub delta_own : (v e : ℕ) → e < length g.edges → IsDelta p.IsAcc (ride_on g b.forks.items v e).delta
-  delta_own v e i = subst (λ (f : Fork A). IsDelta p.IsAcc (at_side (side_at g v e) f.content).delta) (sym (fork_same p law g s b kept e i)) ((kept.stands.kept.true_of.content_fits e).delta (side_at g v e))
+  -- so it is where an actor has pinned them that hasn't made its entry
+  pub carries_own : (a v : ℕ) → (actor_at b.actors.items a).committed ≡ false → ((e : ℕ) → e < length g.edges → is_at v (edge_at g e) ≡ true → (c.words.grip a).pins e ≡ true) → CarriesOwn v
+  carries_own a v fresh pins e i at =
+      ap (λ (f : Fork A). f.content) (fork_same p law g s b kept e i)
+      ∙ sym (held_carries (actor_at b.actors.items) (fork_at (any_word p) b.forks.items e) a false (is_actor_of a (fork_at (any_word p) b.forks.items e).mark.pinner (pins e i at)) fresh)
 
-  pub content_own : (e : ℕ) → e < length g.edges → IsContent p (content_of (fork_at 0 b.forks.items e).content)
-  content_own e i = subst (λ (f : Fork A). IsContent p (content_of f.content)) (sym (fork_same p law g s b kept e i)) (kept.stands.kept.true_of.content_fits e)
+  module _ (v : ℕ) (own : CarriesOwn v) where
+    -- what waits on a fork are values of the program
+    pub message_own : (e : ℕ) → e < length g.edges → is_at v (edge_at g e) ≡ true → IsOptional p.IsMessage (ride_on g b.forks.items v e).message
+    message_own e i at = subst (λ (x : Carried A). IsOptional p.IsMessage (at_side (side_at g v e) x).message) (sym (own e i at)) ((kept.stands.kept.true_of.content_fits e).message (side_at g v e))
 
-  -- the message that is found is that of the state
-  pub message_is : (v : ℕ) (own : Option ℕ) → own ≡ (c.place v).message → message_along p.combine g b.forks.items v own (edges_at g v) ≡ st.message v
-  message_is v own is =
-      joined_along (join_monoid p law) (λ e. is_at v (edge_at g e)) (λ e. (ride_on g b.forks.items v e).message) (λ e. (c.content e).message (side_at g v e)) own (length g.edges)
-      (subst (IsOptional p.IsMessage) (sym is) (kept.stands.kept.true_of.own_message v))
-      (λ e i. (kept.stands.kept.true_of.content_fits e).message (side_at g v e))
-      (λ e i. ap (λ (f : Fork A). (at_side (side_at g v e) f.content).message) (fork_same p law g s b kept e i))
-      ∙ (λ j. join p.combine (is j) (total_like (join p.combine) None
-      (λ e. cond (is_at v (edge_at g e)) ((c.content e).message (side_at g v e)) None) (message_at shape c.content v) (length g.edges)
-      (λ e i. sym (at_end_test g (cut_of b) b.caches v e (λ t. (c.content e).message t) None)) j))
+    pub delta_own : (e : ℕ) → e < length g.edges → is_at v (edge_at g e) ≡ true → IsDelta p.IsAcc (ride_on g b.forks.items v e).delta
+    delta_own e i at = subst (λ (x : Carried A). IsDelta p.IsAcc (at_side (side_at g v e) x).delta) (sym (own e i at)) ((kept.stands.kept.true_of.content_fits e).delta (side_at g v e))
 
-  -- the gather that is kept, with all that waits
-  pub kept_is : (v : ℕ) (cell : CacheCell A) → cell ≡ (c.place v).cell
-      → added_along p.sum g b.forks.items v (added p.sum cell.acc cell.pending) (edges_at g v) ≡ added p.sum (c.place v).cell.acc (waiting p shape c v)
-  kept_is v cell is =
-      let own : IsCell p cell = subst (IsCell p) (sym is) (kept.stands.kept.true_of.cell_fits v) in
-      let rest : Delta A = total (joined p.sum) Nothing (λ e. cond (is_at v (edge_at g e)) ((c.content e).delta (side_at g v e)) Nothing) (length g.edges) in
-      let rest_own : IsDelta p.IsAcc rest = waits_own p law (λ e. is_at v (edge_at g e)) (λ e. (c.content e).delta (side_at g v e)) (length g.edges) (λ e i. (kept.stands.kept.true_of.content_fits e).delta (side_at g v e)) in
-      added_all p law (λ e. is_at v (edge_at g e)) (λ e. (ride_on g b.forks.items v e).delta) (λ e. (c.content e).delta (side_at g v e)) (added p.sum cell.acc cell.pending) (length g.edges)
-      (added_own p law cell.acc cell.pending own.acc own.pending)
-      (λ e i. (kept.stands.kept.true_of.content_fits e).delta (side_at g v e))
-      (λ e i. ap (λ (f : Fork A). (at_side (side_at g v e) f.content).delta) (fork_same p law g s b kept e i))
-      ∙ added_joined p law cell.acc cell.pending rest own.acc own.pending rest_own
-      ∙ (λ j. added p.sum (is j).acc (joined p.sum (is j).pending (total_like (joined p.sum) Nothing
-      (λ e. cond (is_at v (edge_at g e)) ((c.content e).delta (side_at g v e)) Nothing) (delta_at shape c.content v) (length g.edges)
-      (λ e i. sym (at_end_test g (cut_of b) b.caches v e (λ t. (c.content e).delta t) Nothing)) j)))
+    pub content_own : (e : ℕ) → e < length g.edges → is_at v (edge_at g e) ≡ true → IsContent p (content_of (fork_at 0 b.forks.items e).content)
+    content_own e i at = subst (λ (x : Carried A). IsContent p (content_of x)) (sym (own e i at)) (kept.stands.kept.true_of.content_fits e)
+
+    -- the message that is found is that of the state
+    pub message_is : (mine : Option ℕ) → mine ≡ (c.place v).message → message_along p.combine g b.forks.items v mine (edges_at g v) ≡ st.message v
+    message_is mine is =
+        joined_along (join_monoid p law) (λ e. is_at v (edge_at g e)) (λ e. (ride_on g b.forks.items v e).message) (λ e. (c.content e).message (side_at g v e)) mine (length g.edges)
+        (subst (IsOptional p.IsMessage) (sym is) (kept.stands.kept.true_of.own_message v))
+        (λ e i. (kept.stands.kept.true_of.content_fits e).message (side_at g v e))
+        (λ e i at. ap (λ (x : Carried A). (at_side (side_at g v e) x).message) (own e i at))
+        ∙ (λ j. join p.combine (is j) (total_like (join p.combine) None
+        (λ e. cond (is_at v (edge_at g e)) ((c.content e).message (side_at g v e)) None) (message_at shape c.content v) (length g.edges)
+        (λ e i. sym (at_end_test g (cut_of b) b.caches v e (λ t. (c.content e).message t) None)) j))
+
+    -- the gather that is kept, with all that waits
+    pub kept_is : (cell : CacheCell A) → cell ≡ (c.place v).cell
+        → added_along p.sum g b.forks.items v (added p.sum cell.acc cell.pending) (edges_at g v) ≡ added p.sum (c.place v).cell.acc (waiting p shape c v)
+    kept_is cell is =
+        let fits : IsCell p cell = subst (IsCell p) (sym is) (kept.stands.kept.true_of.cell_fits v) in
+        let rest : Delta A = total (joined p.sum) Nothing (λ e. cond (is_at v (edge_at g e)) ((c.content e).delta (side_at g v e)) Nothing) (length g.edges) in
+        let rest_own : IsDelta p.IsAcc rest = waits_own p law (λ e. is_at v (edge_at g e)) (λ e. (c.content e).delta (side_at g v e)) (length g.edges) (λ e i. (kept.stands.kept.true_of.content_fits e).delta (side_at g v e)) in
+        added_all p law (λ e. is_at v (edge_at g e)) (λ e. (ride_on g b.forks.items v e).delta) (λ e. (c.content e).delta (side_at g v e)) (added p.sum cell.acc cell.pending) (length g.edges)
+        (added_own p law cell.acc cell.pending fits.acc fits.pending)
+        (λ e i. (kept.stands.kept.true_of.content_fits e).delta (side_at g v e))
+        (λ e i at. ap (λ (x : Carried A). (at_side (side_at g v e) x).delta) (own e i at))
+        ∙ added_joined p law cell.acc cell.pending rest fits.acc fits.pending rest_own
+        ∙ (λ j. added p.sum (is j).acc (joined p.sum (is j).pending (total_like (joined p.sum) Nothing
+        (λ e. cond (is_at v (edge_at g e)) ((c.content e).delta (side_at g v e)) Nothing) (delta_at shape c.content v) (length g.edges)
+        (λ e i. sym (at_end_test g (cut_of b) b.caches v e (λ t. (c.content e).delta t) Nothing)) j)))
 
   -- it can be used where the vertex has a gather
   pub kept_there : (v : ℕ) → is_some (added p.sum (c.place v).cell.acc (waiting p shape c v)) ≡ has_gather p shape c v
@@ -116,11 +130,14 @@ module _ {A C : Type 0} (p : Program A C) (law : IsLawful p) (g : Multigraph) (s
     pins : (e : ℕ) → e < length g.edges → is_at v (edge_at g e) ≡ true → (c.words.grip a).pins e ≡ true
     pins e i at = may.all (side_at g v e) e i (side_end g v e at)
 
+    pub may_carry : CarriesOwn v
+    may_carry = carries_own a v may.fresh pins
+
     pub near_is : (centre : Datum) (e : ℕ) → e < length g.edges → is_at v (edge_at g e) ≡ true → near_over g b.forks.items centre v e ≡ near_noted p shape c a centre (side_at g v e) e
     near_is centre e i at = λ j. record {
       side = side_at g v e;
       edge = sym (edge_is p g (cut_of b) b.caches law kept.setting.graph e i) j;
-      word = ap (λ (f : Fork A). f.content.word) (fork_same p law g s b kept e i) j;
+      word = ap (λ (x : Carried A). x.word) (may_carry e i at) j;
       centre = centre;
       other = (ap (λ (f : Fork A). datum_noted f.mark.noted) (fork_same p law g s b kept e i)
           ∙ datum_by_halves (fork_at (any_word p) b.forks.items e).mark.noted
@@ -146,7 +163,7 @@ module _ {A C : Type 0} (p : Program A C) (law : IsLawful p) (g : Multigraph) (s
         = preparing.datum_noted p shape b.fuel (serial_of p s) (plain p law (setting_of g s b) kept.setting) c a v m may kept.stands.kept.clean kept.stands.kept.true_of (side_at g v e) e i (side_end g v e at) used in
         record {
           edge = edge_known g kept.setting.graph e i;
-          word = subst (λ (f : Fork A). p.IsWord f.content.word) (sym (fork_same p law g s b kept e i)) (kept.stands.kept.true_of.content_fits e).word;
+          word = subst (λ (x : Carried A). p.IsWord x.word) (sym (may_carry e i at)) (kept.stands.kept.true_of.content_fits e).word;
           centre = own;
           other = subst p.IsDatum (sym (ap (λ (n : Near). n.other) (near_is centre e i at) ∙ other)) (kept.stands.kept.true_of.datum_fits (end_at g (opposite (side_at g v e)) e));
         }

@@ -14,44 +14,21 @@ use Rattle.pg_meals.specs.declared.actor.Ready.{Ready}
 use Rattle.pg_meals.specs.declared.actor.Actor.{Actor}
 use Rattle.pg_meals.specs.Families.{set_at}
 use Rattle.pg_meals.specs.Words.{entered}
-use Rattle.pg_meals.specs.Core.{Core, Prepared, Notes, empty_content}
-use Rattle.pg_meals.specs.Once.{is_among}
-use Rattle.pg_meals.specs.Entries.{is_actor, no_fork, no_seat, idle, fork_at, seat_at, actor_at, replicas_at, replica_in}
-use Rattle.pg_meals.specs.Shown.{content_of, place_of, half_noted, noted_by, planned_by, prepared_of, written_of, half_in, grip_of, notes_of, core_from}
-use Rattle.pg_meals.specs.Exchanges.{exchanged, AreExchanged, made_stale}
+use Rattle.pg_meals.specs.Core.{Core, Prepared, Notes}
+use Rattle.pg_meals.specs.Entries.{no_seat, idle, fork_at, seat_at, actor_at, replicas_at, replica_in, made_stale}
+use Rattle.pg_meals.specs.Shown.{place_of, planned_by, prepared_of, written_of, half_in, grip_of, notes_of, core_from}
 use Rattle.pg_meals.proofs.At.{same_or_not, false_test}
 use Rattle.pg_meals.proofs.ListReads.{read_as, read_like}
 use Rattle.pg_meals.proofs.Marking.{prepared_like}
+use Rattle.pg_meals.proofs.Riding.{carried_entered}
 use Rattle.pg_meals.proofs.Showing.{as_set}
 use Rattle.pg_meals.proofs.Copied.{rows_set}
 use Rattle.pg_meals.proofs.Staled.{stale_datum, all_stale}
 
-module _ {A : Type 0} where
-  same_mark : (b : Bool) (x : Fork A) → (cond b (exchanged x) x).mark ≡ x.mark
-  same_mark true x = refl
-  same_mark false x = refl
-
-  taken_content : (b : Bool) (x : Fork A) → content_of (cond b (exchanged x) x).content ≡ cond b (cond b (content_of x.prepared) empty_content) (content_of x.content)
-  taken_content true x = refl
-  taken_content false x = refl
-
-  -- what another actor planned isn't touched
-  other_plan : (a b : ℕ) → b ≢ a → (x : Fork A) (p : Option ℕ) → x.mark.pinner ≡ p → planned_by b (cond (is_actor a p) (exchanged x) x) ≡ planned_by b x
-  other_plan a b n x None is = refl
-  other_plan a b n x (Some o) is = go (same_or_not o a)
-    where
-      go : (o ≡ a) ⊎ (o ≢ a) → planned_by b (cond (o == a) (exchanged x) x) ≡ planned_by b x
-      go (inl q) =
-          let t : (o == a) ≡ true = (Decides-eqb o a).1 q in
-          let s : is_actor b x.mark.pinner ≡ false = ap (is_actor b) is ∙ false_test o b (λ r. n (sym r ∙ q)) in
-          rw (t) (ap (λ k. cond k (content_of x.content) empty_content) s ∙ sym (ap (λ k. cond k (content_of x.prepared) empty_content) s))
-      go (inr d) = rw (false_test o a d) refl
-
-module _ {A : Type 0} (w : ℕ) (d : Datum) (seats : List (Seat A)) (forks after : List (Fork A)) (rows : List (Vec Replica Global)) (actors : List Actor) (turn : Option ℕ) (journal : List JournalEntry)
-    (a v : ℕ) (es : List ℕ) (r : Actor) (q : Ready) (seat : Seat A) (cell spare : CacheCell A) (row : Vec Replica Global) (last stale : ℕ)
+module _ {A : Type 0} (w : ℕ) (d : Datum) (seats : List (Seat A)) (forks : List (Fork A)) (rows : List (Vec Replica Global)) (actors : List Actor) (turn : Option ℕ) (journal : List JournalEntry)
+    (a v : ℕ) (r : Actor) (q : Ready) (seat : Seat A) (cell spare : CacheCell A) (row : Vec Replica Global) (last stale : ℕ)
     (a_in : a < length actors) (v_in : v < length seats) (row_in : v < length rows) (r_is : r ≡ actor_at actors a) (seat_is : seat ≡ seat_at d seats v) (cell_is : cell ≡ seat.prepared)
-    (swapped : AreExchanged forks es after) (row_is : row.items ≡ map made_stale (replicas_at rows v)) (among : (e : ℕ) → is_among e es ≡ is_actor a (fork_at w forks e).mark.pinner)
-    (busy : (actor_at actors a).vertex ≡ Some v) (ready : (actor_at actors a).ready ≡ Some q) (alone : (b : ℕ) → (actor_at actors b).vertex ≡ Some v → b ≡ a) where
+    (row_is : row.items ≡ map made_stale (replicas_at rows v)) (busy : (actor_at actors a).vertex ≡ Some v) (ready : (actor_at actors a).ready ≡ Some q) (alone : (b : ℕ) → (actor_at actors b).vertex ≡ Some v → b ≡ a) where
   abbrev x : Seat A
   x = record { holder = seat.holder; datum = q.datum; message = q.again; cell = cell; prepared = spare; last = last }
 
@@ -61,14 +38,11 @@ module _ {A : Type 0} (w : ℕ) (d : Datum) (seats : List (Seat A)) (forks after
   abbrev was : ℕ → Fork A
   was = fork_at w forks
 
-  abbrev now : ℕ → Fork A
-  now = fork_at w after
-
   abbrev old : Core A
   old = core_from (seat_at d seats) was (replicas_at rows) (actor_at actors) turn journal
 
   abbrev new : Core A
-  new = core_from (seat_at d (slice_set seats v x)) now (replicas_at (slice_set rows v row)) (actor_at (slice_set actors a y)) turn (journal ++ record { vertex = v; datum = q.datum } ∷ [])
+  new = core_from (seat_at d (slice_set seats v x)) was (replicas_at (slice_set rows v row)) (actor_at (slice_set actors a y)) turn (journal ++ record { vertex = v; datum = q.datum } ∷ [])
 
   abbrev pub planned : Prepared A
   planned = record { datum = q.datum; again = q.again; cell = (seat_at d seats v).prepared; content = λ e. planned_by a (was e) }
@@ -77,26 +51,10 @@ module _ {A : Type 0} (w : ℕ) (d : Datum) (seats : List (Seat A)) (forks after
   pub planned_is : (old.notes a).prepared ≡ Some planned
   planned_is = λ j. prepared_of a (ready j) (busy j) (seat_at d seats) was
 
-  fork_is : (e : ℕ) → now e ≡ cond (is_actor a (was e).mark.pinner) (exchanged (was e)) (was e)
-  fork_is e = swapped e (no_fork w) ∙ ap (λ b. cond b (exchanged (was e)) (was e)) (among e)
-
-  mark_is : (e : ℕ) → (now e).mark ≡ (was e).mark
-  mark_is e = ap (λ (z : Fork A). z.mark) (fork_is e) ∙ same_mark (is_actor a (was e).mark.pinner) (was e)
-
-  grip_like : (b : ℕ) (z : Actor) → grip_of b z now ≡ grip_of b z was
-  grip_like b z = λ j. record {
-    vertex = z.vertex;
-    pins = λ e. is_actor b (mark_is e j).pinner;
-    taken = λ e. is_actor b (mark_is e j).pinner && (mark_is e j).taken;
-    evidence = z.evidence;
-    committed = z.committed;
-    turn = z.turn;
-  }
-
   grip_is : (b : ℕ) → new.words.grip b ≡ (entered old.words a (record { vertex = v; datum = q.datum })).grip b
   grip_is = as_set old.words.grip new.words.grip a (record (old.words.grip a) { committed = true })
-      (ap (λ z. grip_of a z now) (get_or-set_same actors a y idle a_in) ∙ (grip_like a y ∙ (λ j. record (grip_of a (r_is j) was) { committed = true })))
-      (λ b n. ap (λ z. grip_of b z now) (get_or-set_other actors a b y idle n) ∙ grip_like b (actor_at actors b))
+      (ap (λ z. grip_of a z was) (get_or-set_same actors a y idle a_in) ∙ (λ j. record (grip_of a (r_is j) was) { committed = true }))
+      (λ b n. ap (λ z. grip_of b z was) (get_or-set_other actors a b y idle n))
 
   row_same : (u k : ℕ) → (u ≡ v) ⊎ (u ≢ v) → (replica_in (replicas_at (slice_set rows v row) u) k).datum ≡ (replica_in (replicas_at rows u) k).datum
   row_same u k (inl e) =
@@ -120,17 +78,17 @@ module _ {A : Type 0} (w : ℕ) (d : Datum) (seats : List (Seat A)) (forks after
 
   notes_are : (b : ℕ) → new.notes b ≡ set_at old.notes a noted b
   notes_are = as_set old.notes new.notes a noted
-      (ap (λ z. notes_of a z now (seat_at d (slice_set seats v x)) (replicas_at (slice_set rows v row))) (get_or-set_same actors a y idle a_in) ∙ (λ j. record {
-        noted = λ e h. half_noted h (noted_by a (mark_is e j));
+      (ap (λ z. notes_of a z was (seat_at d (slice_set seats v x)) (replicas_at (slice_set rows v row))) (get_or-set_same actors a y idle a_in) ∙ (λ j. record {
+        noted = (old.notes a).noted;
         prepared = None;
         written = λ k h. (ap (λ (z : Actor). written_of z.vertex true (replicas_at (slice_set rows v row)) k h) r_is ∙ unwritten k h) j;
         before = (seat_is j).datum;
       }))
-      (λ b n. ap (λ z. notes_of b z now (seat_at d (slice_set seats v x)) (replicas_at (slice_set rows v row))) (get_or-set_other actors a b y idle n) ∙ (λ j. record {
-        noted = λ e h. half_noted h (noted_by b (mark_is e j));
-        prepared = prepared_like b (actor_at actors b).ready (actor_at actors b).vertex (seat_at d (slice_set seats v x)) (seat_at d seats) now was
+      (λ b n. ap (λ z. notes_of b z was (seat_at d (slice_set seats v x)) (replicas_at (slice_set rows v row))) (get_or-set_other actors a b y idle n) ∙ (λ j. record {
+        noted = (old.notes b).noted;
+        prepared = prepared_like b (actor_at actors b).ready (actor_at actors b).vertex (seat_at d (slice_set seats v x)) (seat_at d seats) was was
             (λ u o. ap (λ (z : Seat A). z.prepared) (get_or-set_other seats v u x (no_seat d) (λ e. n (alone b (o ∙ ap Some e)))))
-            (λ z o e. ap (planned_by b) (fork_is e) ∙ other_plan a b n (was e) (was e).mark.pinner refl) j;
+            (λ z o e. refl) j;
         written = λ k h. other_written (actor_at actors b).vertex (actor_at actors b).committed k h (λ o. n (alone b o)) j;
         before = (actor_at actors b).before;
       }))
@@ -145,12 +103,12 @@ module _ {A : Type 0} (w : ℕ) (d : Datum) (seats : List (Seat A)) (forks after
   enter_shows = λ j. record {
     words = record {
       vertex = λ u. read_like (λ (z : Seat A). z.holder) seats v x u (no_seat d) v_in (ap (λ (z : Seat A). z.holder) seat_is) j;
-      fork = λ e. (mark_is e j).word;
+      fork = old.words.fork;
       turn = turn;
       grip = λ b. grip_is b j;
       journal = journal ++ record { vertex = v; datum = q.datum } ∷ [];
     };
-    content = λ e. (ap (λ (z : Fork A). content_of z.content) (fork_is e) ∙ taken_content (is_actor a (was e).mark.pinner) (was e)) j;
+    content = λ e. carried_entered actors a y a_in refl (was e) j;
     place = λ u. (read_as place_of seats v x u (no_seat d) v_in ∙ ap (λ k. set_at old.place v (record { datum = q.datum; message = q.again; cell = k }) u) (cell_is ∙ ap (λ (z : Seat A). z.prepared) seat_is)) j;
     replica = λ u k h. ap (half_in h) (row_same u k (same_or_not u v)) j;
     notes = λ b. notes_are b j;

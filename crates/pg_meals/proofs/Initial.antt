@@ -28,7 +28,7 @@ use Rattle.pg_meals.specs.Setting.{cell_at}
 use Rattle.pg_meals.specs.Ranks.{last_entry}
 use Rattle.pg_meals.specs.Once.{is_among, Once}
 use Rattle.pg_meals.specs.Entries.{at_side, is_actor, idle, no_load, no_fork, no_seat, fork_at, seat_at, actor_at, replicas_at, replica_in, homes}
-use Rattle.pg_meals.specs.Shown.{content_of, place_of, notes_of}
+use Rattle.pg_meals.specs.Shown.{carried, content_of, place_of, notes_of}
 use Rattle.pg_meals.specs.Tallies.{left_to_write, IsTallied}
 use Rattle.pg_meals.specs.Boards.{IsBoard}
 use Rattle.pg_meals.specs.Opening.{new_fork, fork_on, new_seat, seat_on, copy_of, row_on}
@@ -155,7 +155,7 @@ module _ {A : Type 0} (g : Multigraph) (cut : Division) (s : Configuration) (cel
         };
         journal = journal_is j;
       };
-      content = λ e. (ap (λ (x : Fork A). content_of x.content) (fork_is w e) ∙ bare_content (slice_index_or s.edges e w)) j;
+      content = λ e. (ap (λ (x : Fork A). content_of (carried (actor_at b.actors.items) x)) (fork_is w e) ∙ bare_content (slice_index_or s.edges e w)) j;
       place = λ v. place_of (seat_is d v j);
       replica = copies_in b;
       notes = λ a. notes_of a (actor_is a j) (λ e. fork_is w e j) (seat_at d b.seats.items) (replicas_at b.replicas.items);

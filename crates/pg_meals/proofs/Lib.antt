@@ -34,6 +34,7 @@ pub mod ListReads
 pub mod Claimed
 pub mod Marking
 pub mod Holding
+pub mod Riding
 pub mod Showing
 pub mod Written
 pub mod Backed
@@ -41,7 +42,6 @@ pub mod Noted
 pub mod Copied
 pub mod Copies
 pub mod Initial
-pub mod Exchanged
 pub mod Staled
 pub mod Entered
 pub mod Tallied

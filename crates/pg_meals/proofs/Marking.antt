@@ -20,9 +20,10 @@ use Rattle.pg_meals.specs.Core.{Core, empty_content}
 use Rattle.pg_meals.specs.Acts.{Got, got_of}
 use Rattle.pg_meals.proofs.Rows.{got_row, pin_row, take_row}
 use Rattle.pg_meals.specs.Entries.{is_actor, no_fork, idle, fork_at, actor_at}
-use Rattle.pg_meals.specs.Shown.{content_of, half_noted, noted_by, planned_by, prepared_of, grip_of, notes_of, core_from}
+use Rattle.pg_meals.specs.Shown.{carried, content_of, half_noted, noted_by, planned_by, prepared_of, grip_of, notes_of, core_from}
 use Rattle.pg_meals.proofs.At.{same_or_not, false_test}
 use Rattle.pg_meals.proofs.ListReads.{read_set, read_as, read_like}
+use Rattle.pg_meals.proofs.Riding.{lone_carries, held_carries, carried_like}
 
 -- what is prepared is the same where it is so for the vertex and on each fork
 pub prepared_like : {A : Type 0} (b : ℕ) (o : Option Ready) (v : Option ℕ) (seats places : ℕ → Seat A) (f h : ℕ → Fork A)
@@ -73,7 +74,7 @@ module _ {A : Type 0} (w : ℕ) (seats : ℕ → Seat A) (forks : List (Fork A))
     pub look_shows : shown ≡ record old { words = marked old.words a evidence }
     look_shows = λ j. record {
       words = record { vertex = old.words.vertex; fork = old.words.fork; turn = turn; grip = λ b. look_grip b (same_or_not b a) j; journal = journal };
-      content = old.content;
+      content = λ k. content_of (carried_like actors a y a_in (ap (λ (z : Actor). z.committed) is) (fork_at w forks k) j);
       place = old.place;
       replica = old.replica;
       notes = λ b. look_notes (fork_at w forks) b (same_or_not b a) j;
@@ -116,7 +117,7 @@ module _ {A : Type 0} (w : ℕ) (seats : ℕ → Seat A) (forks : List (Fork A))
     pub turn_shows : turn_shown ≡ record old { words = record old.words { turn = word; grip = set_at old.words.grip a (record (old.words.grip a) { turn = holds }) } }
     turn_shows = λ j. record {
       words = record { vertex = old.words.vertex; fork = old.words.fork; turn = word; grip = λ b. turn_grip b (same_or_not b a) j; journal = journal };
-      content = old.content;
+      content = λ k. content_of (carried_like actors a turned a_in (ap (λ (z : Actor). z.committed) is) (fork_at w forks k) j);
       place = old.place;
       replica = old.replica;
       notes = λ b. turn_notes (fork_at w forks) b (same_or_not b a) j;
@@ -142,7 +143,7 @@ module _ {A : Type 0} (w : ℕ) (seats : ℕ → Seat A) (forks : List (Fork A))
         };
         journal = journal;
       };
-      content = λ k. part (λ (x : Fork A). content_of x.content) k refl j;
+      content = λ k. part (λ (x : Fork A). content_of (carried (actor_at actors) x)) k refl j;
       place = old.place;
       replica = old.replica;
       notes = λ b. record (old.notes b) {
@@ -153,7 +154,7 @@ module _ {A : Type 0} (w : ℕ) (seats : ℕ → Seat A) (forks : List (Fork A))
 
   -- one actor pins one fork
   module _ (a e : ℕ) (r : Actor) (f : Fork A) (word : ForkWord) (taken evidence : Bool) (count : ℕ) (a_in : a < length actors) (e_in : e < length forks) (r_is : r ≡ actor_at actors a) (f_is : f ≡ fork_at w forks e)
-      (lone : f.mark.pinner ≡ None) (unready : (x : Ready) → (actor_at actors a).ready ≡ Some x → ⊥) where
+      (lone : f.mark.pinner ≡ None) (fresh : (actor_at actors a).committed ≡ false) (unready : (x : Ready) → (actor_at actors a).ready ≡ Some x → ⊥) where
     abbrev mark : Mark
     mark = record { word = word; pinner = Some a; taken = taken; noted = None }
 
@@ -213,6 +214,12 @@ module _ {A : Type 0} (w : ℕ) (seats : ℕ → Seat A) (forks : List (Fork A))
         = λ j. record (old.words.grip b) { pins = λ k. theirs b k n j; taken = λ k. theirs_taken b k n j } in
         rw (t) (ap (λ k. grip_of b k after) z ∙ g)
 
+    -- the actor hasn't made its entry, so the fork carries what it did
+    carried_is : (k : ℕ) → carried (actor_at (slice_set actors a record_of)) (after k) ≡ carried (actor_at actors) (fork_at w forks k)
+    carried_is k =
+        carried_like actors a record_of a_in (ap (λ (z : Actor). z.committed) r_is) (after k)
+        ∙ kept (carried (actor_at actors)) k (held_carries (actor_at actors) pinned_fork a false refl fresh ∙ sym (lone_carries (actor_at actors) f lone))
+
     pub pin_shows : pinned_one ≡ record old { words = pinned old.words a e word taken evidence }
     pin_shows = λ j. record {
       words = record {
@@ -222,7 +229,7 @@ module _ {A : Type 0} (w : ℕ) (seats : ℕ → Seat A) (forks : List (Fork A))
         grip = λ b. grip_is b (same_or_not b a) j;
         journal = journal;
       };
-      content = λ k. kept (λ (x : Fork A). content_of x.content) k refl j;
+      content = λ k. content_of (carried_is k j);
       place = old.place;
       replica = old.replica;
       notes = λ b. (look_notes a r evidence count a_in r_is after b (same_or_not b a) ∙ notes_kept b) j;

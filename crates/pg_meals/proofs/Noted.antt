@@ -12,7 +12,7 @@ use Rattle.pg_meals.specs.declared.actor.Actor.{Actor}
 use Rattle.pg_meals.specs.Families.{set_at}
 use Rattle.pg_meals.specs.Core.{Core, Notes}
 use Rattle.pg_meals.specs.Entries.{is_actor, no_fork, fork_at}
-use Rattle.pg_meals.specs.Shown.{content_of, half_noted, noted_by, planned_by, core_from}
+use Rattle.pg_meals.specs.Shown.{carried, content_of, half_noted, noted_by, planned_by, core_from}
 use Rattle.pg_meals.proofs.At.{same_or_not, false_test}
 use Rattle.pg_meals.proofs.Marking.{prepared_like}
 use Rattle.pg_meals.proofs.Showing.{as_set, kept, other_notes}
@@ -95,7 +95,7 @@ module _ {A : Type 0} (w : ℕ) (seats : ℕ → Seat A) (forks : List (Fork A))
       };
       journal = journal;
     };
-    content = λ k. kept w forks e x f e_in f_is (λ (z : Fork A). content_of z.content) k refl j;
+    content = λ k. kept w forks e x f e_in f_is (λ (z : Fork A). content_of (carried actors z)) k refl j;
     place = old.place;
     replica = old.replica;
     notes = λ b. notes_are b j;

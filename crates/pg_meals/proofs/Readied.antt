@@ -17,11 +17,13 @@ use Rattle.pg_meals.specs.Families.{set_at}
 use Rattle.pg_meals.specs.Core.{Core, Prepared, Notes, empty_content}
 use Rattle.pg_meals.specs.Once.{is_among}
 use Rattle.pg_meals.specs.Entries.{is_actor, no_fork, no_seat, idle, fork_at, seat_at, actor_at, replicas_at}
-use Rattle.pg_meals.specs.Shown.{content_of, place_of, half_noted, noted_by, planned_by, prepared_of, written_of, grip_of, notes_of, core_from}
+use Rattle.pg_meals.specs.Shown.{carried, content_of, place_of, half_noted, noted_by, planned_by, prepared_of, written_of, grip_of, notes_of, core_from}
 use Rattle.pg_meals.specs.Readied.{with_plan, ArePlanned}
 use Rattle.pg_meals.proofs.At.{same_or_not, false_test}
+use Rattle.pg_meals.proofs.Holding.{is_actor_of}
 use Rattle.pg_meals.proofs.ListReads.{read_like}
 use Rattle.pg_meals.proofs.Marking.{prepared_like}
+use Rattle.pg_meals.proofs.Riding.{held_carries, carried_like}
 use Rattle.pg_meals.proofs.Showing.{as_set}
 
 module _ {A : Type 0} where
@@ -29,9 +31,12 @@ module _ {A : Type 0} where
   same_mark true x plan = refl
   same_mark false x plan = refl
 
-  same_content : (b : Bool) (x : Fork A) (plan : Carried A) → (cond b (with_plan plan x) x).content ≡ x.content
-  same_content true x plan = refl
-  same_content false x plan = refl
+  -- a fork carries what it did where its pinner, which planned, hasn't made its entry
+  same_load : (actors : ℕ → Actor) (a : ℕ) → (actors a).committed ≡ false → (x : Fork A) (plan : Carried A) (b : Bool) → is_actor a x.mark.pinner ≡ b → carried actors (cond b (with_plan plan x) x) ≡ carried actors x
+  same_load actors a fresh x plan true t =
+      let mine = is_actor_of a x.mark.pinner t in
+      held_carries actors (with_plan plan x) a false mine fresh ∙ sym (held_carries actors x a false mine fresh)
+  same_load actors a fresh x plan false t = refl
 
   -- what the actor planned
   own_plan : (a : ℕ) (x : Fork A) (plan : Carried A) (b : Bool) → is_actor a x.mark.pinner ≡ b → planned_by a (cond b (with_plan plan x) x) ≡ cond b (content_of plan) empty_content
@@ -54,7 +59,7 @@ module _ {A : Type 0} (w : ℕ) (d : Datum) (seats : List (Seat A)) (forks after
     (a v : ℕ) (es : List ℕ) (r : Actor) (q : Ready) (seat : Seat A) (cell : CacheCell A) (plan : ℕ → Carried A)
     (a_in : a < length actors) (v_in : v < length seats) (r_is : r ≡ actor_at actors a) (seat_is : seat ≡ seat_at d seats v)
     (planned : ArePlanned forks plan es after) (among : (e : ℕ) → is_among e es ≡ is_actor a (fork_at w forks e).mark.pinner)
-    (busy : (actor_at actors a).vertex ≡ Some v) (alone : (b : ℕ) → (actor_at actors b).vertex ≡ Some v → b ≡ a) where
+    (busy : (actor_at actors a).vertex ≡ Some v) (fresh : (actor_at actors a).committed ≡ false) (alone : (b : ℕ) → (actor_at actors b).vertex ≡ Some v → b ≡ a) where
   abbrev x : Seat A
   x = record seat { prepared = cell }
 
@@ -83,8 +88,10 @@ module _ {A : Type 0} (w : ℕ) (d : Datum) (seats : List (Seat A)) (forks after
   mark_is : (e : ℕ) → (now e).mark ≡ (was e).mark
   mark_is e = ap (λ (z : Fork A). z.mark) (fork_is e) ∙ same_mark (is_actor a (was e).mark.pinner) (was e) (plan e)
 
-  content_is : (e : ℕ) → (now e).content ≡ (was e).content
-  content_is e = ap (λ (z : Fork A). z.content) (fork_is e) ∙ same_content (is_actor a (was e).mark.pinner) (was e) (plan e)
+  carried_is : (e : ℕ) → carried (actor_at (slice_set actors a y)) (now e) ≡ carried (actor_at actors) (was e)
+  carried_is e =
+      carried_like actors a y a_in (ap (λ (z : Actor). z.committed) r_is) (now e)
+      ∙ (ap (carried (actor_at actors)) (fork_is e) ∙ same_load (actor_at actors) a fresh (was e) (plan e) (is_actor a (was e).mark.pinner) refl)
 
   grip_like : (b : ℕ) (z : Actor) → grip_of b z now ≡ grip_of b z was
   grip_like b z = λ j. record {
@@ -139,7 +146,7 @@ module _ {A : Type 0} (w : ℕ) (d : Datum) (seats : List (Seat A)) (forks after
       grip = λ b. grip_is b j;
       journal = journal;
     };
-    content = λ e. content_of (content_is e j);
+    content = λ e. content_of (carried_is e j);
     place = λ u. read_like place_of seats v x u (no_seat d) v_in (ap place_of seat_is) j;
     replica = old.replica;
     notes = λ b. notes_are b j;

@@ -19,8 +19,8 @@ use Rattle.pg_meals.specs.declared.seat.Seat.{Seat}
 use Rattle.pg_meals.specs.declared.board.Board.{Board}
 use Rattle.pg_meals.specs.declared.ranking.Ranked.{Ranked}
 use Rattle.pg_meals.specs.Families.{total}
-use Rattle.pg_meals.specs.Entries.{at_side, no_fork, no_seat, fork_at, seat_at}
-use Rattle.pg_meals.specs.Shown.{shape_on}
+use Rattle.pg_meals.specs.Entries.{at_side, no_fork, no_seat, fork_at, seat_at, actor_at}
+use Rattle.pg_meals.specs.Shown.{carried, shape_on}
 use Rattle.pg_meals.specs.Standing.{signalled, message_at}
 use Rattle.pg_meals.specs.Listed.{any_word, any_datum}
 use Rattle.pg_meals.specs.Carrying.{setting_of, core_by, IsKept}
@@ -47,23 +47,23 @@ side_end g v e = go (end_at g Source e == v) refl
     go false q t = (Decides-eqb (end_at g Target e) v).0 t
 
 -- one of some forks has a message for the vertex, or none has
-decide_rides : {A : Type 0} (g : Multigraph) (forks : List (Fork A)) (v : ℕ) (es : List ℕ) → OneRides g forks v es ⊎ NoneRides g forks v es
-decide_rides g forks v [] = inr (λ i l. absurd (omega (arith, l)))
-decide_rides g forks v (e ∷ es) = go (rides_to g forks v e) refl (decide_rides g forks v es)
+decide_rides : {A : Type 0} (g : Multigraph) (b : Board A) (v : ℕ) (es : List ℕ) → OneRides g b v es ⊎ NoneRides g b v es
+decide_rides g b v [] = inr (λ i l. absurd (omega (arith, l)))
+decide_rides g b v (e ∷ es) = go (rides_to g b v e) refl (decide_rides g b v es)
   where
-    none : rides_to g forks v e ≡ false → NoneRides g forks v es → (i : ℕ) → i < suc (length es) → rides_to g forks v (slice_index_or (e ∷ es) i 0) ≡ false
+    none : rides_to g b v e ≡ false → NoneRides g b v es → (i : ℕ) → i < suc (length es) → rides_to g b v (slice_index_or (e ∷ es) i 0) ≡ false
     none t rest zero l = t
     none t rest (suc i) l = rest i (omega (arith, l))
 
-    go : (b : Bool) → rides_to g forks v e ≡ b → OneRides g forks v es ⊎ NoneRides g forks v es → OneRides g forks v (e ∷ es) ⊎ NoneRides g forks v (e ∷ es)
+    go : (k : Bool) → rides_to g b v e ≡ k → OneRides g b v es ⊎ NoneRides g b v es → OneRides g b v (e ∷ es) ⊎ NoneRides g b v (e ∷ es)
     go true t rest = inl (0, omega arith, t)
     go false t (inl one) = inl (suc one.0, omega (arith, one.1), one.2)
     go false t (inr rest) = inr (none t rest)
 
 decide : {A : Type 0} (g : Multigraph) (b : Board A) (v : ℕ) → IsAwaited g b v ⊎ IsQuiet g b v
-decide g b v = go (has_own b v) refl (decide_rides g b.forks.items v (edges_at g v))
+decide g b v = go (has_own b v) refl (decide_rides g b v (edges_at g v))
   where
-    go : (k : Bool) → has_own b v ≡ k → OneRides g b.forks.items v (edges_at g v) ⊎ NoneRides g b.forks.items v (edges_at g v) → IsAwaited g b v ⊎ IsQuiet g b v
+    go : (k : Bool) → has_own b v ≡ k → OneRides g b v (edges_at g v) ⊎ NoneRides g b v (edges_at g v) → IsAwaited g b v ⊎ IsQuiet g b v
     go true t rest = inl (inl t)
     go false t (inl one) = inl (inr one)
     go false t (inr none) = inr (t, none)
@@ -87,17 +87,17 @@ module _ {A C : Type 0} (p : Program A C) (law : IsLawful p) (g : Multigraph) (s
       let e = slice_index_or (edges_at g v) one.0 0 in
       let at = filter_numbers_each (λ f. is_at v (edge_at g f)) (length g.edges) one.0 0 one.1 in
       ridden_signals p (shape_on g b) (core_by p b) (side_at g v e) v e (plain p law (setting_of g s b) kept.setting) at.0 (side_end g v e at.1)
-      (ap (λ (f : Fork A). is_some (at_side (side_at g v e) f.content).message) (sym (fork_same e at.0)) ∙ one.2)
+      (ap (λ (f : Fork A). is_some (at_side (side_at g v e) (carried (actor_at b.actors.items) f)).message) (sym (fork_same e at.0)) ∙ one.2)
 
-  quiet_none : (v : ℕ) → NoneRides g b.forks.items v (edges_at g v) → (e : ℕ) → e < length g.edges → message_at (shape_on g b) (core_by p b).content v e ≡ None
+  quiet_none : (v : ℕ) → NoneRides g b v (edges_at g v) → (e : ℕ) → e < length g.edges → message_at (shape_on g b) (core_by p b).content v e ≡ None
   quiet_none v none e i =
-      let f : Side → Option ℕ = λ t. (at_side t (fork_at (any_word p) b.forks.items e).content).message in
+      let f : Side → Option ℕ = λ t. (at_side t (carried (actor_at b.actors.items) (fork_at (any_word p) b.forks.items e))).message in
       either_side (end_at g Source e == v) (end_at g Target e == v) f None ∙ go (is_at v (edge_at g e)) refl
     where
-      go : (k : Bool) → is_at v (edge_at g e) ≡ k → cond k (at_side (side_at g v e) (fork_at (any_word p) b.forks.items e).content).message None ≡ None
+      go : (k : Bool) → is_at v (edge_at g e) ≡ k → cond k (at_side (side_at g v e) (carried (actor_at b.actors.items) (fork_at (any_word p) b.forks.items e))).message None ≡ None
       go true t =
-          none_is _ (ap (λ (f : Fork A). is_some (at_side (side_at g v e) f.content).message) (sym (fork_same e i))
-          ∙ any_passing (λ d. rides_to g b.forks.items v d ≡ false) (λ d. is_at v (edge_at g d)) (length g.edges) (each_by_place (λ d. rides_to g b.forks.items v d ≡ false) (edges_at g v) none) e i t)
+          none_is _ (ap (λ (f : Fork A). is_some (at_side (side_at g v e) (carried (actor_at b.actors.items) f)).message) (sym (fork_same e i))
+          ∙ any_passing (λ d. rides_to g b v d ≡ false) (λ d. is_at v (edge_at g d)) (length g.edges) (each_by_place (λ d. rides_to g b v d ≡ false) (edges_at g v) none) e i t)
       go false t = refl
 
   not_there : (v : ℕ) → IsQuiet g b v → signalled p (shape_on g b) (core_by p b) v ≡ false

@@ -13,6 +13,7 @@ use Rattle.pg_meals.specs.Shown.{content_of, half_noted, noted_by, planned_by, g
 use Rattle.pg_meals.proofs.At.{same_or_not, false_test}
 use Rattle.pg_meals.proofs.ListReads.{read_like}
 use Rattle.pg_meals.proofs.Marking.{prepared_like}
+use Rattle.pg_meals.proofs.Riding.{carried_like}
 
 -- a family that is x at a, and as before elsewhere
 pub as_set : {X : Type 0} (f h : ℕ → X) (a : ℕ) (x : X) → h a ≡ x → ((b : ℕ) → b ≢ a → h b ≡ f b) → (b : ℕ) → h b ≡ set_at f a x b
@@ -35,6 +36,7 @@ module _ {A : Type 0} (seats : ℕ → Seat A) (forks : ℕ → Fork A) (replica
   pub left_shows : core_from seats forks replicas (actor_at (slice_set actors a y)) turn journal ≡ old
   left_shows = λ j. record old {
     words = record old.words { grip = λ b. read_like (λ z. grip_of b z forks) actors a y b idle a_in (ap (λ z. grip_of b z forks) is) j };
+    content = λ e. content_of (carried_like actors a y a_in (ap (λ (z : Actor). z.committed) is) (forks e) j);
     notes = λ b. read_like (λ z. notes_of b z forks seats replicas) actors a y b idle a_in (ap (λ z. notes_of b z forks seats replicas) is) j;
   }
 

@@ -4,8 +4,7 @@ use Rattle.std.specs.Prelude.{map, Vec}
 use Rattle.std.specs.declared.alloc.Global.{Global}
 use Rattle.std.proofs.lemmas.Bool.Decides.{Decides-eqb}
 use Rattle.pg_meals.specs.declared.seat.Replica.{Replica}
-use Rattle.pg_meals.specs.Entries.{replicas_at, replica_in, homes}
-use Rattle.pg_meals.specs.Exchanges.{made_stale}
+use Rattle.pg_meals.specs.Entries.{replicas_at, replica_in, made_stale, homes}
 use Rattle.pg_meals.proofs.At.{same_or_not, false_test}
 use Rattle.pg_meals.proofs.Copied.{rows_set}
 

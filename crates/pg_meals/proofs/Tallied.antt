@@ -12,9 +12,8 @@ use Rattle.pg_meals.specs.declared.seat.Seat.{Seat}
 use Rattle.pg_meals.specs.declared.seat.Replica.{Replica}
 use Rattle.pg_meals.specs.declared.actor.Actor.{Actor}
 use Rattle.pg_meals.specs.Ranks.{last_entry}
-use Rattle.pg_meals.specs.Entries.{is_actor, no_fork, no_seat, idle, fork_at, seat_at, actor_at, replicas_at}
+use Rattle.pg_meals.specs.Entries.{is_actor, no_fork, no_seat, idle, fork_at, seat_at, actor_at, replicas_at, made_stale}
 use Rattle.pg_meals.specs.Once.{is_among}
-use Rattle.pg_meals.specs.Exchanges.{exchanged, AreExchanged, made_stale}
 use Rattle.pg_meals.specs.Readied.{with_plan, ArePlanned}
 use Rattle.pg_meals.specs.Tallies.{pins_among, stale_among, left_to_write, ArePinsCounted, AreStaleCounted, AreLastKept}
 use Rattle.pg_meals.proofs.At.{false_test}
@@ -35,14 +34,7 @@ none_pinned forks a none w e = go (below_or_past e (length forks))
     go (inl i) = none_passes (λ x. is_actor a x.mark.pinner) forks none e (no_fork w) i
     go (inr i) = ap (λ (x : Fork _). is_actor a x.mark.pinner) (get_or_past forks e (no_fork w) i)
 
--- who has pinned a fork stays, where contents are exchanged or planned
-pub exchanged_pinner : {A : Type 0} (forks after : List (Fork A)) (es : List ℕ) → AreExchanged forks es after → (e : ℕ) (d : Fork A) → (slice_index_or after e d).mark.pinner ≡ (slice_index_or forks e d).mark.pinner
-exchanged_pinner {A} forks after es swapped e d = ap (λ (x : Fork A). x.mark.pinner) (swapped e d) ∙ same (is_among e es) (slice_index_or forks e d)
-  where
-    same : (t : Bool) (x : Fork A) → (cond t (exchanged x) x).mark.pinner ≡ x.mark.pinner
-    same true x = refl
-    same false x = refl
-
+-- who has pinned a fork stays, where something is planned for it
 pub planned_pinner : {A : Type 0} (forks after : List (Fork A)) (plan : ℕ → Carried A) (es : List ℕ) → ArePlanned forks plan es after → (e : ℕ) (d : Fork A) → (slice_index_or after e d).mark.pinner ≡ (slice_index_or forks e d).mark.pinner
 planned_pinner {A} forks after plan es planned e d = ap (λ (x : Fork A). x.mark.pinner) (planned e d) ∙ same (is_among e es) (slice_index_or forks e d)
   where

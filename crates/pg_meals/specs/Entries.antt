@@ -101,6 +101,10 @@ abbrev pub replica_in : List Replica → ℕ → Replica
 replica_in [] k = record { worker = k; datum = two 0 0; stale = true }
 replica_in (x ∷ xs) k = cond (k == x.worker) x (replica_in xs k)
 
+-- an entry has yet to be written to a replica
+abbrev pub made_stale : Replica → Replica
+made_stale x = record x { stale = true }
+
 -- the workers that have one
 abbrev pub homes : List Replica → List ℕ
 homes xs = map (λ x. x.worker) xs

@@ -2,24 +2,24 @@
 use Rattle.std.specs.Prelude.{ℕ, ◌≡◌, ◌<◌, ◌⊎◌, ltb, length, List, slice_index_or, Bool, true, false, cond, Option, Some, None, is_some}
 use Rattle.pg_graph.specs.Multigraph.{Multigraph, side_at, edges_at}
 use Rattle.pg_law.specs.Values.{two}
-use Rattle.pg_meals.specs.declared.fork.Fork.{Fork}
 use Rattle.pg_meals.specs.declared.board.Board.{Board}
 use Rattle.pg_meals.specs.declared.ranking.Ranked.{Ranked}
 use Rattle.pg_meals.specs.Ranks.{Before, last_entry}
-use Rattle.pg_meals.specs.Entries.{at_side, fork_at, seat_at}
+use Rattle.pg_meals.specs.Entries.{at_side, seat_at}
+use Rattle.pg_meals.specs.Shown.{carried_on}
 
 -- a message rides to v on the fork of an edge
-abbrev pub rides_to : {A : Type 0} → Multigraph → List (Fork A) → ℕ → ℕ → Bool
-rides_to g forks v e = is_some (at_side (side_at g v e) (fork_at 0 forks e).content).message
+abbrev pub rides_to : {A : Type 0} → Multigraph → Board A → ℕ → ℕ → Bool
+rides_to g b v e = is_some (at_side (side_at g v e) (carried_on b e)).message
 
 -- one of these forks has a message for v, or none has
-abbrev pub OneRides : {A : Type 0} → Multigraph → List (Fork A) → ℕ → List ℕ → Type 0
-OneRides g forks v es =
-    (i : ℕ) × (i < length es) × (rides_to g forks v (slice_index_or es i 0) ≡ true)
+abbrev pub OneRides : {A : Type 0} → Multigraph → Board A → ℕ → List ℕ → Type 0
+OneRides g b v es =
+    (i : ℕ) × (i < length es) × (rides_to g b v (slice_index_or es i 0) ≡ true)
 
-abbrev pub NoneRides : {A : Type 0} → Multigraph → List (Fork A) → ℕ → List ℕ → Type 0
-NoneRides g forks v es = (i : ℕ) → i < length es
-    → rides_to g forks v (slice_index_or es i 0) ≡ false
+abbrev pub NoneRides : {A : Type 0} → Multigraph → Board A → ℕ → List ℕ → Type 0
+NoneRides g b v es = (i : ℕ) → i < length es
+    → rides_to g b v (slice_index_or es i 0) ≡ false
 
 -- a message waits in the place of a vertex
 abbrev pub has_own : {A : Type 0} → Board A → ℕ → Bool
@@ -27,10 +27,10 @@ has_own b v = is_some (seat_at (two 0 0) b.seats.items v).message
 
 -- a message waits for v in its place or on a fork, or none does
 abbrev pub IsAwaited : {A : Type 0} → Multigraph → Board A → ℕ → Type 0
-IsAwaited g b v = (has_own b v ≡ true) ⊎ OneRides g b.forks.items v (edges_at g v)
+IsAwaited g b v = (has_own b v ≡ true) ⊎ OneRides g b v (edges_at g v)
 
 abbrev pub IsQuiet : {A : Type 0} → Multigraph → Board A → ℕ → Type 0
-IsQuiet g b v = (has_own b v ≡ false) × NoneRides g b.forks.items v (edges_at g v)
+IsQuiet g b v = (has_own b v ≡ false) × NoneRides g b v (edges_at g v)
 
 -- of two vertices the one of smaller rank, where the first has the smaller number
 abbrev pub lesser : Option Ranked → Ranked → Ranked

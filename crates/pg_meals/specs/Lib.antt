@@ -22,7 +22,6 @@ pub mod Entries
 pub mod Shown
 pub mod Tallies
 pub mod Boards
-pub mod Exchanges
 pub mod Opening
 pub mod Opened
 pub mod Carrying

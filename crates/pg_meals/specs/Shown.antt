@@ -18,6 +18,18 @@ use Rattle.pg_meals.specs.Listed.{Cut, shape_of}
 use Rattle.pg_meals.specs.Once.{is_among}
 use Rattle.pg_meals.specs.Entries.{at_side, is_actor, fork_at, seat_at, actor_at, replicas_at, replica_in, homes}
 
+-- the actor that pinned a fork has made its entry
+abbrev pub has_entered : (ℕ → Actor) → Option ℕ → Bool
+has_entered actors None = false
+has_entered actors (Some a) = (actors a).committed
+
+-- what a fork carries: from the entry of its pinner on what that prepared for it
+abbrev pub carried : {A : Type 0} → (ℕ → Actor) → Fork A → Carried A
+carried actors x = cond (has_entered actors x.mark.pinner) x.prepared x.content
+
+abbrev pub carried_on : {A : Type 0} → Board A → ℕ → Carried A
+carried_on b e = carried (actor_at b.actors.items) (fork_at 0 b.forks.items e)
+
 abbrev pub content_of : {A : Type 0} → Carried A → Content A
 content_of x = record {
   word = x.word;
@@ -93,7 +105,7 @@ core_from seats forks replicas actors turn journal = record {
     grip = λ a. grip_of a (actors a) forks;
     journal = journal;
   };
-  content = λ e. content_of (forks e).content;
+  content = λ e. content_of (carried actors (forks e));
   place = λ v. place_of (seats v);
   replica = λ v k h. half_in h (replica_in (replicas v) k).datum;
   notes = λ a. notes_of a (actors a) forks seats replicas;

@@ -153,7 +153,8 @@ fn clear_waiting<A: Drop>(graph: &Graph, forks: &[Fork<A>], cells: &mut Vec<Cach
     }
 }
 
-/// The state for which a board stands, in the lists of that from which it began.
+/// The state for which a board stands of which nobody holds anything, in the lists of that from which
+/// it began.
 pub fn state_left<P: VertexProgram>(
     program: &P,
     graph: &Graph,
@@ -162,6 +163,7 @@ pub fn state_left<P: VertexProgram>(
     mut words: Vec<u64>,
 ) -> State
     requires kept { IsKept (P.meaning program.now) graph.now opening board.now }
+    requires free { AllFree board.now.actors.items }
     requires none { words.items ≡ [] }
     requires room { length graph.now.edges ≤ vec_capacity words }
     ensures { result ≡ state_of_board (P.meaning program.now) graph.now opening board.now }

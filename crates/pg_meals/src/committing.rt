@@ -1,31 +1,16 @@
 //! The entry of an execution.
-ghost use Rattle.std.specs.Prelude.{◌≡◌, ◌<◌, length, map, All, MatchOption, IsNone};
-ghost use Rattle.pg_meals.specs.Once.{Once};
+ghost use Rattle.std.specs.Prelude.{◌≡◌, ◌<◌, length, map, MatchOption, IsNone};
 ghost use Rattle.pg_meals.specs.Acts.{Commit, Entered};
-ghost use Rattle.pg_meals.specs.Exchanges.{AreExchanged, made_stale};
+ghost use Rattle.pg_meals.specs.Entries.{made_stale};
 ghost use Rattle.pg_meals.specs.Tallies.{IsTallied};
 ghost use Rattle.pg_meals.specs.Boards.{IsBoard, Frame, Acts, MayNot};
 
 use crate::actor::Actor;
 use crate::board::Board;
-use crate::fork::Fork;
 use crate::seat::Replica;
 use pg_graph::Graph;
 use pg_law::JournalEntry;
 use std::mem::swap;
-
-/// At each of these edges, what was prepared and what rides there change places.
-fn exchange<A: Drop>(forks: &mut Vec<Fork<A>>, edges: &[u32])
-    requires inside { All (λ e. e < length forks.old.items) edges.now }
-    requires once { Once edges.now }
-    ensures exchanged { AreExchanged forks.old.items edges.now forks.new.items }
-    ensures len { length forks.new.items ≡ length forks.old.items }
-{
-    for edge in edges {
-        let fork = &mut forks[*edge as usize];
-        swap(&mut fork.content, &mut fork.prepared);
-    }
-}
 
 /// Each of these replicas has an entry yet to be written to it.
 fn make_stale(row: &mut Vec<Replica>)
@@ -39,7 +24,8 @@ fn make_stale(row: &mut Vec<Replica>)
 impl<A: Drop> Board<A> {
     /// The actor makes the entry of its vertex: the vertex and its forks become what was prepared.
     ///
-    /// It takes the turn, and room in the journal.
+    /// It takes the turn, and room in the journal. The forks are left alone: from now on each carries
+    /// what was prepared for it (`content`), and is set right when it goes back.
     pub fn commit(&mut self, graph: &Graph, actor: u32) -> Option<u64>
         requires actor { actor < length self.old.actors.items }
         requires board { IsBoard graph.now self.old }
@@ -69,7 +55,6 @@ impl<A: Drop> Board<A> {
         }
         let datum = ready.datum;
         self.journal.push_reserved(JournalEntry { vertex, datum });
-        exchange(&mut self.forks, graph.edges_of(vertex));
         let stale = self.replicas[vertex as usize].len();
         make_stale(&mut self.replicas[vertex as usize]);
         let seat = &mut self.seats[vertex as usize];

@@ -1,14 +1,33 @@
 //! Giving a fork back.
-ghost use Rattle.std.specs.Prelude.{◌≡◌, ◌<◌, length, MatchBool, IsFalse};
+ghost use Rattle.std.specs.Prelude.{◌≡◌, ◌<◌, length, cond, false, None, MatchBool, IsFalse};
 ghost use Rattle.pg_meals.specs.Acts.{Back, Moved};
 ghost use Rattle.pg_meals.specs.Tallies.{IsTallied};
 ghost use Rattle.pg_meals.specs.Boards.{IsBoard, Frame, Acts, MayNot};
 
 use crate::actor::Actor;
 use crate::board::Board;
-use crate::fork::Mark;
-use pg_forks::Why;
+use crate::fork::{Fork, Mark};
+use pg_forks::{ForkWord, Why};
 use pg_graph::Graph;
+use std::mem::swap;
+
+/// The fork rests with this word. Where its pinner has made its entry, what that prepared rides on it
+/// from now on.
+fn rest<A: Drop>(fork: &mut Fork<A>, word: ForkWord, entered: bool)
+    ensures mark { fork.new.mark
+        ≡ record { word = word; pinner = None; taken = false; noted = None } }
+    ensures content { fork.new.content ≡ cond entered fork.old.prepared fork.old.content }
+{
+    if entered {
+        swap(&mut fork.content, &mut fork.prepared);
+    }
+    fork.mark = Mark {
+        word,
+        pinner: None,
+        taken: false,
+        noted: None,
+    };
+}
 
 impl<A: Drop> Board<A> {
     /// The actor gives back the fork of an edge. What it noted over it and prepared is forgotten.
@@ -45,12 +64,7 @@ impl<A: Drop> Board<A> {
         let Some(word) = mark.word.back(me, why) else {
             return false;
         };
-        self.forks[edge as usize].mark = Mark {
-            word,
-            pinner: None,
-            taken: false,
-            noted: None,
-        };
+        rest(&mut self.forks[edge as usize], word, record.committed);
         self.actors[actor as usize] = Actor {
             ready: None,
             pinned: record.pinned - 1,

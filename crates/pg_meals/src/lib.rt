@@ -5,6 +5,7 @@
 pub mod act;
 pub mod actor;
 pub mod board;
+mod carrying;
 mod claiming;
 mod closing;
 mod committing;

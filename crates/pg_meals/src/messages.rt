@@ -1,6 +1,6 @@
 //! Messages for one vertex.
-ghost use Rattle.std.specs.Prelude.{◌≡◌, ◌<◌, ℕ, length};
-ghost use Rattle.pg_graph.specs.Multigraph.{edges_at};
+ghost use Rattle.std.specs.Prelude.{◌≡◌, ◌<◌, ℕ, length, true};
+ghost use Rattle.pg_graph.specs.Multigraph.{edge_at, is_at, edges_at};
 ghost use Rattle.pg_law.specs.Laws.{IsOptional};
 ghost use Rattle.pg_law.specs.Round.{join};
 ghost use Rattle.pg_meals.specs.Plans.{ride_on, message_along};
@@ -35,8 +35,10 @@ pub fn message_for<P: VertexProgram>(
     requires vertex { vertex < length graph.now.ids }
     requires forks { length forks.now ≡ length graph.now.edges }
     requires own { IsOptional (P.meaning program.now).IsMessage own }
-    requires rides { (e : ℕ) → e < length graph.now.edges → IsOptional
-        (P.meaning program.now).IsMessage (ride_on graph.now forks.now vertex e).message }
+    requires rides { (e : ℕ) → e < length graph.now.edges
+        → is_at vertex (edge_at graph.now e) ≡ true
+        → IsOptional (P.meaning program.now).IsMessage
+        (ride_on graph.now forks.now vertex e).message }
     ensures value { result ≡ message_along (P.meaning program.now).combine graph.now forks.now
         vertex own (edges_at graph.now vertex) }
     ensures own { IsOptional (P.meaning program.now).IsMessage result }

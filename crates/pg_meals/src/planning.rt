@@ -1,6 +1,6 @@
 //! What is to ride on the forks of a vertex once it has executed.
-ghost use Rattle.std.specs.Prelude.{◌≡◌, ◌<◌, ℕ, length, map, IfOk};
-ghost use Rattle.pg_graph.specs.Multigraph.{edges_at};
+ghost use Rattle.std.specs.Prelude.{◌≡◌, ◌<◌, ℕ, length, map, true, IfOk};
+ghost use Rattle.pg_graph.specs.Multigraph.{edge_at, is_at, edges_at};
 ghost use Rattle.pg_law.specs.Laws.{IsDelta, IsScattered};
 ghost use Rattle.pg_delta.specs.Deltas.{joined};
 ghost use Rattle.pg_meals.specs.Entries.{fork_at};
@@ -143,6 +143,7 @@ pub fn plan<P: VertexProgram>(
     requires near { let p = P.meaning program.now in
         AreNear p p.scatter_edges graph.now forks.now applied.datum vertex }
     requires contents { (e : ℕ) → e < length graph.now.edges
+        → is_at vertex (edge_at graph.now e) ≡ true
         → IsContent (P.meaning program.now) (content_of (fork_at 0 forks.now e).content) }
     ensures { IfOk result (λ plans. plans.items
         ≡ map (planned_over (P.meaning program.now) graph.now forks.now vertex applied)

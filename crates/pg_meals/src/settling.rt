@@ -1,6 +1,6 @@
 //! A kept gather, and what waits to be added to it.
-ghost use Rattle.std.specs.Prelude.{◌≡◌, ◌<◌, ℕ, length, IfSome, IfOk};
-ghost use Rattle.pg_graph.specs.Multigraph.{edges_at};
+ghost use Rattle.std.specs.Prelude.{◌≡◌, ◌<◌, ℕ, length, true, IfSome, IfOk};
+ghost use Rattle.pg_graph.specs.Multigraph.{edge_at, is_at, edges_at};
 ghost use Rattle.pg_law.specs.Laws.{IsDelta};
 ghost use Rattle.pg_delta.specs.Cell.{IsCell};
 ghost use Rattle.pg_meals.specs.Plans.{added, added_along, ride_on};
@@ -65,6 +65,7 @@ pub fn kept_gather<P: VertexProgram>(
     requires forks { length forks.now ≡ length graph.now.edges }
     requires cell { IsCell (P.meaning program.now) cell.now }
     requires rides { (e : ℕ) → e < length graph.now.edges
+        → is_at vertex (edge_at graph.now e) ≡ true
         → IsDelta (P.meaning program.now).IsAcc (ride_on graph.now forks.now vertex e).delta }
     ensures value { let p = P.meaning program.now in
         IfOk result (λ acc. acc ≡ added_along p.sum graph.now forks.now vertex

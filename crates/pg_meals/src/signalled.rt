@@ -21,7 +21,7 @@ impl<A: Drop> Board<A> {
         }
         for edge in graph.edges_of(vertex) {
             let side = graph.edges()[*edge as usize].side(vertex);
-            if self.forks[*edge as usize].content.waits(side) {
+            if self.content(graph, *edge).waits(side) {
                 return true;
             }
         }

@@ -12,7 +12,8 @@ ghost use Rattle.pg_meals.specs.Tables.{AreCaches, IsSameTable, IsQuietTable, Is
 ghost use Rattle.pg_meals.specs.Tables.{state_of};
 ghost use Rattle.pg_meals.specs.Closing.{AllFree, OneBusy, AreLeft};
 ghost use Rattle.pg_meals.specs.Carrying.{IsKept};
-ghost use Rattle.pg_meals.specs.Entries.{actor_at, at_side, fork_at};
+ghost use Rattle.pg_meals.specs.Entries.{actor_at, at_side};
+ghost use Rattle.pg_meals.specs.Shown.{carried_on};
 ghost use Rattle.pg_meals.specs.Least.{has_own};
 
 use crate::act::{Act, Outcome};
@@ -178,10 +179,9 @@ impl<'g, P: VertexProgram> MealTable<'g, P> {
     /// Whether a message waits for an end of an edge, on its fork.
     pub fn waits_over(&self, edge: u32, end: Side) -> bool
         requires { edge < length self.now.graph.edges }
-        ensures { result ≡
-            is_some (at_side end (fork_at 0 self.now.board.forks.items edge).content).message }
+        ensures { result ≡ is_some (at_side end (carried_on self.now.board edge)).message }
     {
-        self.board.forks[edge as usize].content.waits(end)
+        self.board.content(self.graph, edge).waits(end)
     }
 
     /// The signalled vertex of least rank.

@@ -14,14 +14,14 @@ use Rattle.pg_meals.proofs.closing.state_left.Goals as goal
 
 pub deliver-requires-clause-own : goal.deliver-requires-clause-own
 deliver-requires-clause-own g c κs within =
-    own_fits (g.P.VertexProgram.meaning c.args.program.now) c.laws_of.ensures c.args.graph.now c.args.opening c.args.board.now c.requires.kept c.write_messages.new.messages.items
+    own_fits (g.P.VertexProgram.meaning c.args.program.now) c.laws_of.ensures c.args.graph.now c.args.opening c.args.board.now c.requires.kept c.requires.free c.write_messages.new.messages.items
     (c.write_messages.ensures ∙ ap (λ (seats : List (Seat _)). map (λ v. (seat_at (two 0 0) seats v).message) (range_with_len 0 (length seats))) c.as_slice-2.ensures.value)
 
 pub deliver-requires-clause-rides : goal.deliver-requires-clause-rides
 deliver-requires-clause-rides g c κs within =
     let p = g.P.VertexProgram.meaning c.args.program.now in
     subst (λ (forks : List (Fork _)). (s : Side) (e : ℕ) → IsOptional p.IsMessage (at_side s (fork_at 0 forks e).content).message) (sym c.as_slice-3.ensures.value)
-    (rides_fit p c.laws_of.ensures c.args.graph.now c.args.opening c.args.board.now c.requires.kept)
+    (rides_fit p c.laws_of.ensures c.args.graph.now c.args.opening c.args.board.now c.requires.kept c.requires.free)
 
 pub returns : goal.returns
 returns g c =
@@ -29,7 +29,7 @@ returns g c =
     let graph = c.args.graph.now in
     let own = c.write_messages.new.messages.items in
     (λ j. record { values = c.write_data.new.values.items; edges = c.from.ensures j; messages = c.deliver.new.messages.items })
-    ∙ state_left p c.laws_of.ensures graph c.args.opening c.args.board.now c.requires.kept c.write_data.new.values.items c.put_words.new.words.items own c.deliver.new.messages.items
+    ∙ state_left p c.laws_of.ensures graph c.args.opening c.args.board.now c.requires.kept c.requires.free c.write_data.new.values.items c.put_words.new.words.items own c.deliver.new.messages.items
     (c.write_data.ensures ∙ ap (λ (seats : List (Seat _)). map (λ v. (seat_at (two 0 0) seats v).datum) (range_with_len 0 (length seats))) c.as_slice.ensures.value)
     (c.put_words.ensures ∙ ap (map (λ (x : Fork _). x.content.word)) c.as_slice-4.ensures.value)
     (c.write_messages.ensures ∙ ap (λ (seats : List (Seat _)). map (λ v. (seat_at (two 0 0) seats v).message) (range_with_len 0 (length seats))) c.as_slice-2.ensures.value)

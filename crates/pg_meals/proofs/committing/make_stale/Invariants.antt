@@ -1,6 +1,6 @@
 use Rattle.std.proofs.Common.{◌≡◌, ◌++◌, take, drop}
 use Rattle.std.specs.Prelude.{map}
-use Rattle.pg_meals.specs.Exchanges.{made_stale}
+use Rattle.pg_meals.specs.Entries.{made_stale}
 use Rattle.pg_meals.proofs.committing.make_stale.Given as goal
 
 -- the replicas so far are stale

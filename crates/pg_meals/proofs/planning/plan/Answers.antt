@@ -10,7 +10,7 @@ plan_over-requires-clause-near g c κs within =
 pub plan_over-requires-clause-content : goal.plan_over-requires-clause-content
 plan_over-requires-clause-content g c κs within =
     let at = c.edges_of-around.ensures.within c.loop-e.e-index 0 c.loop-e-test.true in
-    c.requires.contents _ at.0
+    c.requires.contents _ at.0 at.1
 
 pub loop-e-preserved : goal.loop-e-preserved
 loop-e-preserved g c =

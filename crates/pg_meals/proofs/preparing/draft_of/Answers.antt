@@ -10,7 +10,7 @@ use Rattle.pg_meals.specs.Shown.{content_of}
 use Rattle.pg_meals.specs.StandsFor.{IsContent}
 use Rattle.pg_meals.specs.Plans.{near_over, planned_over, cell_keeping}
 use Rattle.pg_meals.proofs.ListReads.{read_any}
-use Rattle.pg_meals.proofs.Due.{near_own, content_own, state_message_own}
+use Rattle.pg_meals.proofs.Due.{may_carry, near_own, content_own, state_message_own}
 use Rattle.pg_meals.proofs.preparing.draft_of.Goals as goal
 
 pub apply-applied-requires-clause-message : goal.apply-applied-requires-clause-message
@@ -51,10 +51,11 @@ plan-requires-clause-near g c κs within = λ e i at t.
     (near_own p c.laws_of.ensures c.args.graph.now c.requires.kept.0 b k c.args.actor v c.args.due.message c.requires.due c.apply-applied.result.datum datum e i at (inr t))
 
 pub plan-requires-clause-contents : goal.plan-requires-clause-contents
-plan-requires-clause-contents g c κs within = λ e i.
+plan-requires-clause-contents g c κs within = λ e i at.
     let p = g.P.VertexProgram.meaning c.args.program.now in
     subst (λ f. IsContent p (content_of (fork_at 0 f e).content)) (sym c.as_slice-forks.ensures.value)
-    (content_own p c.laws_of.ensures c.args.graph.now c.requires.kept.0 c.args.board.now c.requires.kept.1 e i)
+    (content_own p c.laws_of.ensures c.args.graph.now c.requires.kept.0 c.args.board.now c.requires.kept.1 c.args.due.vertex
+    (may_carry p c.laws_of.ensures c.args.graph.now c.requires.kept.0 c.args.board.now c.requires.kept.1 c.args.actor c.args.due.vertex c.args.due.message c.requires.due) e i at)
 
 pub returns-clause-draft : goal.returns-clause-draft
 returns-clause-draft g c =

@@ -12,8 +12,8 @@ use Rattle.pg_meals.specs.Plans.{ride_on, message_along}
 use Rattle.pg_meals.proofs.At.{some_of}
 use Rattle.pg_meals.proofs.ListReads.{read_any}
 use Rattle.pg_meals.proofs.Carried.{board_is}
-use Rattle.pg_meals.proofs.Due.{message_own, message_is}
-use Rattle.pg_meals.proofs.Allowed.{misses, may_with}
+use Rattle.pg_meals.proofs.Due.{carries_own, message_own, message_is}
+use Rattle.pg_meals.proofs.Allowed.{sees_pins, misses, may_with}
 use Rattle.pg_meals.proofs.preparing.due_of.Goals as goal
 
 pub has_noted-requires-clause-vertex : goal.has_noted-requires-clause-vertex
@@ -71,10 +71,16 @@ message_for-requires-clause-own g c κs within =
     subst (λ (x : Seat _). IsOptional p.IsMessage x.message) (sym seat) (c.requires.kept.1.stands.kept.true_of.own_message v)
 
 pub message_for-requires-clause-rides : goal.message_for-requires-clause-rides
-message_for-requires-clause-rides g c κs within = λ e i.
+message_for-requires-clause-rides g c κs within = λ e i at.
     let p = g.P.VertexProgram.meaning c.args.program.now in
-    subst (λ f. IsOptional p.IsMessage (ride_on c.args.graph.now f c.in-Some.vertex e).message) (sym c.as_slice.ensures.value)
-    (message_own p c.laws_of.ensures c.args.graph.now c.requires.kept.0 c.args.board.now c.requires.kept.1 c.in-Some.vertex e i)
+    let b = c.args.board.now in
+    let v : ℕ = c.in-Some.vertex in
+    let actor = c.index-record.ensures ∙ read_any b.actors.items c.args.actor c.index-record.result.now idle c.requires.actor in
+    let fresh = ap (λ (z : Actor). z.committed) (sym actor) ∙ c.if-record.false in
+    let own = carries_own p c.laws_of.ensures c.args.graph.now c.requires.kept.0 b c.requires.kept.1 c.args.actor v fresh
+    (sees_pins p c.laws_of.ensures c.args.graph.now c.requires.kept.0 b c.requires.kept.1 c.args.actor v c.gather_edges-gathers.result c.scatter_edges-scatters.result c.if-not-has_noted.ensures) in
+    subst (λ f. IsOptional p.IsMessage (ride_on c.args.graph.now f v e).message) (sym c.as_slice.ensures.value)
+    (message_own p c.laws_of.ensures c.args.graph.now c.requires.kept.0 b c.requires.kept.1 v own e i at)
 
 pub returns-in-Some-message_for : goal.returns-in-Some-message_for
 returns-in-Some-message_for g c =
@@ -84,10 +90,12 @@ returns-in-Some-message_for g c =
     let actor = c.index-record.ensures ∙ read_any b.actors.items c.args.actor c.index-record.result.now idle c.requires.actor in
     let busy : (actor_at b.actors.items c.args.actor).vertex ≡ Some v = ap (λ (z : Actor). z.vertex) (sym actor) ∙ c.in-Some.is in
     let fresh = ap (λ (z : Actor). z.committed) (sym actor) ∙ c.if-record.false in
+    let own = carries_own p c.laws_of.ensures c.args.graph.now c.requires.kept.0 b c.requires.kept.1 c.args.actor v fresh
+    (sees_pins p c.laws_of.ensures c.args.graph.now c.requires.kept.0 b c.requires.kept.1 c.args.actor v c.gather_edges-gathers.result c.scatter_edges-scatters.result c.if-not-has_noted.ensures) in
     let v_in : v < length b.seats.items = omega (arith, c.requires.kept.1.stands.kept.clean.inside c.args.actor v busy, c.requires.kept.1.laid.seats) in
     let seat = c.index.ensures ∙ read_any b.seats.items v c.index.result.now (no_seat (any_datum p)) v_in in
     let found = c.in-Some-message_for.ensures.value ∙ (ap (λ f. message_along p.combine c.args.graph.now f v c.index.result.now.message (edges_at c.args.graph.now v)) c.as_slice.ensures.value
-    ∙ message_is p c.laws_of.ensures c.args.graph.now c.requires.kept.0 b c.requires.kept.1 v c.index.result.now.message (ap (λ (x : Seat _). x.message) seat)) in
+    ∙ message_is p c.laws_of.ensures c.args.graph.now c.requires.kept.0 b c.requires.kept.1 v own c.index.result.now.message (ap (λ (x : Seat _). x.message) seat)) in
     may_with p c.laws_of.ensures c.args.graph.now c.requires.kept.0 b c.requires.kept.1 c.args.actor v
     c.gather_edges-gathers.result c.scatter_edges-scatters.result c.gather_edges-gathers.ensures c.scatter_edges-scatters.ensures c.in-Some-message_for.message busy fresh c.if-not-has_noted.ensures (sym found)
 
@@ -98,10 +106,13 @@ returns-in-None g c = λ v' m may.
     let v : ℕ = c.in-Some.vertex in
     let actor = c.index-record.ensures ∙ read_any b.actors.items c.args.actor c.index-record.result.now idle c.requires.actor in
     let busy : (actor_at b.actors.items c.args.actor).vertex ≡ Some v = ap (λ (z : Actor). z.vertex) (sym actor) ∙ c.in-Some.is in
+    let fresh = ap (λ (z : Actor). z.committed) (sym actor) ∙ c.if-record.false in
+    let own = carries_own p c.laws_of.ensures c.args.graph.now c.requires.kept.0 b c.requires.kept.1 c.args.actor v fresh
+    (sees_pins p c.laws_of.ensures c.args.graph.now c.requires.kept.0 b c.requires.kept.1 c.args.actor v c.gather_edges-gathers.result c.scatter_edges-scatters.result c.if-not-has_noted.ensures) in
     let v_in : v < length b.seats.items = omega (arith, c.requires.kept.1.stands.kept.clean.inside c.args.actor v busy, c.requires.kept.1.laid.seats) in
     let seat = c.index.ensures ∙ read_any b.seats.items v c.index.result.now (no_seat (any_datum p)) v_in in
     let found = c.in-None.ensures.value ∙ (ap (λ f. message_along p.combine c.args.graph.now f v c.index.result.now.message (edges_at c.args.graph.now v)) c.as_slice.ensures.value
-    ∙ message_is p c.laws_of.ensures c.args.graph.now c.requires.kept.0 b c.requires.kept.1 v c.index.result.now.message (ap (λ (x : Seat _). x.message) seat)) in
+    ∙ message_is p c.laws_of.ensures c.args.graph.now c.requires.kept.0 b c.requires.kept.1 v own c.index.result.now.message (ap (λ (x : Seat _). x.message) seat)) in
     let same : v' ≡ v = some_of v' v (sym may.busy ∙ busy) in
     let there = (subst (λ w. MayPrepare p (shape_on c.args.graph.now b) (core_by p b) c.args.actor w m) same may).message in
     let clash : None ≡ Some m = found ∙ there in

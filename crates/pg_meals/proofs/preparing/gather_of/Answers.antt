@@ -9,7 +9,7 @@ use Rattle.pg_meals.specs.Listed.{any_datum}
 use Rattle.pg_meals.specs.Entries.{no_seat}
 use Rattle.pg_meals.specs.Plans.{near_over, ride_on, added, added_along, gather_along}
 use Rattle.pg_meals.proofs.ListReads.{read_any}
-use Rattle.pg_meals.proofs.Due.{delta_own, kept_is, kept_fresh, gathered_along, near_own, cost_kept, cost_noted}
+use Rattle.pg_meals.proofs.Due.{may_carry, delta_own, kept_is, kept_fresh, gathered_along, near_own, cost_kept, cost_noted}
 use Rattle.pg_meals.proofs.preparing.gather_of.Goals as goal
 
 counted_as : {T E : Type 0} (r : Result T E) (x y n m : ℕ) → n ≡ m → OnOk r (x ≡ y + n) → OnOk r (x ≡ y + m)
@@ -30,10 +30,11 @@ kept_gather-requires-clause-cell g c κs within =
     subst (λ (x : Seat _). IsCell p x.cell) (sym seat) (k.stands.kept.true_of.cell_fits v)
 
 pub kept_gather-requires-clause-rides : goal.kept_gather-requires-clause-rides
-kept_gather-requires-clause-rides g c κs within = λ e i.
+kept_gather-requires-clause-rides g c κs within = λ e i at.
     let p = g.P.VertexProgram.meaning c.args.program.now in
     subst (λ f. IsDelta p.IsAcc (ride_on c.args.graph.now f c.args.due.vertex e).delta) (sym c.as_slice-forks.ensures.value)
-    (delta_own p c.laws_of.ensures c.args.graph.now c.requires.kept.0 c.args.board.now c.requires.kept.1 c.args.due.vertex e i)
+    (delta_own p c.laws_of.ensures c.args.graph.now c.requires.kept.0 c.args.board.now c.requires.kept.1 c.args.due.vertex
+    (may_carry p c.laws_of.ensures c.args.graph.now c.requires.kept.0 c.args.board.now c.requires.kept.1 c.args.actor c.args.due.vertex c.args.due.message c.requires.due) e i at)
 
 pub gather_noted-requires-clause-near : goal.gather_noted-requires-clause-near
 gather_noted-requires-clause-near g c κs within = λ e i at t.
@@ -56,8 +57,9 @@ returns-in-Some-clause-value g c =
     let cell = c.index-seat.result.now.cell in
     let v_in : v < length b.seats.items = omega (arith, k.stands.kept.clean.inside c.args.actor v c.requires.due.busy, k.laid.seats) in
     let seat = c.index-seat.ensures ∙ read_any b.seats.items v c.index-seat.result.now (no_seat (any_datum p)) v_in in
+    let own = may_carry p c.laws_of.ensures c.args.graph.now c.requires.kept.0 b k c.args.actor v c.args.due.message c.requires.due in
     let found = c.in_ok-acc.ensures.value ∙ (ap (λ f. added_along p.sum c.args.graph.now f v (added p.sum cell.acc cell.pending) (edges_at c.args.graph.now v)) c.as_slice-forks.ensures.value
-    ∙ kept_is p c.laws_of.ensures c.args.graph.now c.requires.kept.0 b k v cell (ap (λ (x : Seat _). x.cell) seat)) in
+    ∙ kept_is p c.laws_of.ensures c.args.graph.now c.requires.kept.0 b k v own cell (ap (λ (x : Seat _). x.cell) seat)) in
     kept_fresh p c.laws_of.ensures c.args.graph.now c.requires.kept.0 b k c.args.actor v c.args.due.message c.requires.due c.in-Some.acc (sym found ∙ c.in-Some.is)
 
 pub returns-in-Some-clause-counted : goal.returns-in-Some-clause-counted
@@ -69,8 +71,9 @@ returns-in-Some-clause-counted g c =
     let cell = c.index-seat.result.now.cell in
     let v_in : v < length b.seats.items = omega (arith, k.stands.kept.clean.inside c.args.actor v c.requires.due.busy, k.laid.seats) in
     let seat = c.index-seat.ensures ∙ read_any b.seats.items v c.index-seat.result.now (no_seat (any_datum p)) v_in in
+    let own = may_carry p c.laws_of.ensures c.args.graph.now c.requires.kept.0 b k c.args.actor v c.args.due.message c.requires.due in
     let found = c.in_ok-acc.ensures.value ∙ (ap (λ f. added_along p.sum c.args.graph.now f v (added p.sum cell.acc cell.pending) (edges_at c.args.graph.now v)) c.as_slice-forks.ensures.value
-    ∙ kept_is p c.laws_of.ensures c.args.graph.now c.requires.kept.0 b k v cell (ap (λ (x : Seat _). x.cell) seat)) in
+    ∙ kept_is p c.laws_of.ensures c.args.graph.now c.requires.kept.0 b k v own cell (ap (λ (x : Seat _). x.cell) seat)) in
     let none = cost_kept p c.laws_of.ensures c.args.graph.now c.requires.kept.0 b k v c.in-Some.acc (sym found ∙ c.in-Some.is) in
     omega (arith, none)
 
@@ -95,7 +98,8 @@ returns-in-None-clause-counted g c =
     let cell = c.index-seat.result.now.cell in
     let v_in : v < length b.seats.items = omega (arith, k.stands.kept.clean.inside c.args.actor v c.requires.due.busy, k.laid.seats) in
     let seat = c.index-seat.ensures ∙ read_any b.seats.items v c.index-seat.result.now (no_seat (any_datum p)) v_in in
+    let own = may_carry p c.laws_of.ensures c.args.graph.now c.requires.kept.0 b k c.args.actor v c.args.due.message c.requires.due in
     let found = c.in_ok-acc.ensures.value ∙ (ap (λ f. added_along p.sum c.args.graph.now f v (added p.sum cell.acc cell.pending) (edges_at c.args.graph.now v)) c.as_slice-forks.ensures.value
-    ∙ kept_is p c.laws_of.ensures c.args.graph.now c.requires.kept.0 b k v cell (ap (λ (x : Seat _). x.cell) seat)) in
+    ∙ kept_is p c.laws_of.ensures c.args.graph.now c.requires.kept.0 b k v own cell (ap (λ (x : Seat _). x.cell) seat)) in
     let all = cost_noted p c.laws_of.ensures c.args.graph.now c.requires.kept.0 b k v (sym found ∙ c.in-None.is) in
     counted_as c.gather_noted.result _ _ _ _ (sym all) c.gather_noted.ensures.counted

@@ -1,11 +1,13 @@
-use Rattle.std.proofs.Common.{ℕ, ◌-◌, ◌<◌, ◌≡◌, ◌&&◌, length, true, Some, arith, refl, sym, ap, ◌∙◌}
+use Rattle.std.proofs.Common.{ℕ, ◌-◌, ◌<◌, ◌≡◌, ◌&&◌, length, slice_set, true, Some, None, arith, refl, sym, ap, ◌∙◌}
 use Rattle.std.proofs.lemmas.Bool.Decides.{Decides-eqb}
 use Rattle.pg_graph.specs.declared.edge.Side.{Side}
 use Rattle.pg_graph.specs.Multigraph.{end_at}
 use Rattle.pg_forks.specs.Transitions.{back_of}
+use Rattle.pg_meals.specs.declared.fork.Mark.{Mark}
 use Rattle.pg_meals.specs.declared.fork.Fork.{Fork}
 use Rattle.pg_meals.specs.declared.actor.Actor.{Actor}
 use Rattle.pg_meals.specs.Entries.{is_actor, no_fork, idle, seat_at, fork_at, actor_at, replicas_at}
+use Rattle.pg_meals.specs.Shown.{core_from}
 use Rattle.pg_meals.proofs.ListReads.{read_any}
 use Rattle.pg_meals.proofs.Marking.{named_of}
 use Rattle.pg_meals.proofs.Backed.{back_shows}
@@ -36,8 +38,11 @@ returns-clause-acts g c = λ w d.
     let now_is = c.index_mut.ensures.value ∙ read_any b.forks.items e c.index_mut.result.now (no_fork w) e_in in
     let word_is : back_of (fork_at w b.forks.items e).mark.word me (record { committed = (actor_at b.actors.items a).committed; taken = is_actor a (fork_at w b.forks.items e).mark.pinner && (fork_at w b.forks.items e).mark.taken; evidence = (actor_at b.actors.items a).evidence }) ≡ Some c.in-Some-back.word
     = sym (λ j. back_of (fork_is j).mark.word me (record { committed = (actor_is j).committed; taken = sym pins j && (fork_is j).mark.taken; evidence = (actor_is j).evidence })) ∙ (sym c.back.ensures ∙ c.in-Some-back.is) in
-    let shown = back_shows w (seat_at d b.seats.items) b.forks.items (replicas_at b.replicas.items) b.actors.items b.turn b.journal.items a e c.index-record.result.now c.index_mut.result.now c.in-Some-back.word _ _
-    c.requires.actor e_in actor_is now_is (ap (λ (z : Fork _). z.mark.pinner) now_is ∙ pinned) in (
+    let rested = c.rest.new.fork in
+    let shown = ap (λ x. core_from (seat_at d b.seats.items) (fork_at w (slice_set b.forks.items e x)) (replicas_at b.replicas.items) (actor_at (slice_set b.actors.items a (record c.index-record.result.now { ready = None; pinned = c.index-record.result.now.pinned - 1 }))) b.turn b.journal.items)
+    (λ j. record { mark = c.rest.ensures.mark j; content = rested.content; prepared = rested.prepared })
+    ∙ back_shows w (seat_at d b.seats.items) b.forks.items (replicas_at b.replicas.items) b.actors.items b.turn b.journal.items a e c.index-record.result.now c.index_mut.result.now c.in-Some-back.word rested.content rested.prepared (c.index-record.result.now.pinned - 1) None
+    c.requires.actor e_in actor_is now_is (ap (λ (z : Fork _). z.mark.pinner) now_is ∙ pinned) c.rest.ensures.content in (
       end_at c.args.graph.now me e,
       me,
       c.in-Some-back.word,
@@ -62,7 +67,7 @@ returns-clause-tallied g c =
     let fork_is = c.index.ensures ∙ read_any b.forks.items e c.index.result.now (no_fork 0) e_in in
     let mine : (fork_at 0 b.forks.items e).mark.pinner ≡ Some a = ap (λ (z : Fork _). z.mark.pinner) (sym fork_is) ∙ named_of c.index.result.now.mark.pinner a c.if-ne.ensures in
     record {
-      pinned = pins_less b.forks.items b.actors.items counted.pinned a e _ _ c.requires.actor e_in mine refl (ap (λ (z : Actor). z.pinned - 1) actor_is);
+      pinned = pins_less b.forks.items b.actors.items counted.pinned a e _ _ c.requires.actor e_in mine (ap (λ (z : Mark). z.pinner) c.rest.ensures.mark) (ap (λ (z : Actor). z.pinned - 1) actor_is);
       stale = stale_actor b.replicas.items b.actors.items counted.stale a _ c.requires.actor (left_of b.replicas.items b.actors.items a c.index-record.result.now counted.stale actor_is);
       last = counted.last;
     }

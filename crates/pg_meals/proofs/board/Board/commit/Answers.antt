@@ -2,43 +2,22 @@ use Rattle.std.proofs.Common.{ℕ, ◌+◌, ◌<◌, ◌≡◌, length, slice_se
 use Rattle.std.specs.Prelude.{map, Vec}
 use Rattle.std.specs.declared.alloc.Global.{Global}
 use Rattle.std.proofs.lemmas.Grind.{common_steps}
-use Rattle.pg_graph.specs.declared.edge.Side.{Side}
 use Rattle.pg_law.specs.Values.{two}
-use Rattle.pg_graph.specs.Multigraph.{end_at, edge_at, is_at, edges_at}
 use Rattle.pg_meals.specs.declared.seat.Replica.{Replica}
 use Rattle.pg_meals.specs.declared.actor.Ready.{Ready}
 use Rattle.pg_meals.specs.declared.actor.Actor.{Actor}
 use Rattle.pg_meals.specs.Acts.{Entered}
-use Rattle.pg_meals.specs.Once.{is_among, Once}
-use Rattle.pg_meals.specs.Entries.{is_actor, no_seat, idle, fork_at, actor_at, replicas_at}
+use Rattle.pg_meals.specs.Entries.{no_seat, idle, actor_at, replicas_at, made_stale}
 use Rattle.pg_meals.specs.Shown.{core_from}
 use Rattle.pg_meals.specs.Tallies.{stale_among, AreLastKept}
-use Rattle.pg_meals.specs.Exchanges.{AreExchanged, made_stale}
 use Rattle.pg_meals.proofs.At.{some_of}
 use Rattle.pg_meals.proofs.ListReads.{read_any}
 use Rattle.pg_meals.proofs.Marking.{not_false}
-use Rattle.pg_meals.proofs.Around.{distinct_numbers}
-use Rattle.pg_meals.proofs.Initial.{once_of}
-use Rattle.pg_meals.proofs.Holding.{is_actor_of, pins_are}
 use Rattle.pg_meals.proofs.Copied.{row_at}
 use Rattle.pg_meals.proofs.Staled.{stale_after}
 use Rattle.pg_meals.proofs.Entered.{planned_is, enter_shows}
-use Rattle.pg_meals.proofs.Tallied.{pins_actor, pins_forks, exchanged_pinner, stale_row, all_are_stale, last_more}
+use Rattle.pg_meals.proofs.Tallied.{pins_actor, stale_row, all_are_stale, last_more}
 use Rattle.pg_meals.proofs.board.Board.commit.Goals as goal
-
-pub edges_of-requires : goal.edges_of-requires
-edges_of-requires g c =
-    let b = c.args.self.now in
-    let a : ℕ = c.args.actor in
-    let v : ℕ = c.in-Some-vertex.vertex in
-    let actor_is = c.index-record.ensures ∙ read_any b.actors.items a c.index-record.result.now idle c.requires.actor in
-    let busy : (actor_at b.actors.items a).vertex ≡ Some v = ap (λ (z : Actor). z.vertex) (sym actor_is) ∙ c.in-Some-vertex.is in
-    let inside : v < length c.args.graph.now.ids = c.requires.board.inside a v busy in
-    inside
-
-pub exchange-requires-clause-once : goal.exchange-requires-clause-once
-exchange-requires-clause-once g c =
-    subst Once (sym c.edges_of.ensures.value) (once_of (edges_at c.args.graph.now c.in-Some-vertex.vertex) (distinct_numbers (λ e. is_at c.in-Some-vertex.vertex (edge_at c.args.graph.now e)) (length c.args.graph.now.edges)))
 
 pub index-requires : goal.index-requires
 index-requires g c =
@@ -78,7 +57,6 @@ returns-clause-acts g c = λ w d.
     let actor_is = c.index-record.ensures ∙ read_any b.actors.items a c.index-record.result.now idle c.requires.actor in
     let busy : (actor_at b.actors.items a).vertex ≡ Some v = ap (λ (z : Actor). z.vertex) (sym actor_is) ∙ c.in-Some-vertex.is in
     let inside : v < length c.args.graph.now.ids = c.requires.board.inside a v busy in
-    let graph = c.args.graph.now in
     let q : Ready = c.in-Some.ready in
     let v_in : v < length b.seats.items = omega (arith, inside, c.requires.board.seats) in
     let row_in : v < length b.replicas.items = omega (arith, inside, c.requires.board.replicas) in
@@ -88,14 +66,9 @@ returns-clause-acts g c = λ w d.
     let seat_is = c.index_mut-seat.ensures.value ∙ read_any b.seats.items v c.index_mut-seat.result.now (no_seat d) v_in in
     let row_is : c.make_stale.new.row.items ≡ map made_stale (replicas_at b.replicas.items v)
     = c.make_stale.ensures ∙ ap (map made_stale) (ap (λ (r : Vec Replica Global). r.items) c.index_mut.ensures.value ∙ sym (row_at b.replicas.items v c.index_mut.result.now row_in)) in
-    let here : (e : ℕ) → is_actor a (fork_at w b.forks.items e).mark.pinner ≡ true → (e < length graph.edges) × (s : Side) × (end_at graph s e ≡ v)
-    = λ e t. (let at = c.requires.board.held w a e (is_actor_of a (fork_at w b.forks.items e).mark.pinner t) in (at.0, (fork_at w b.forks.items e).mark.word.side, some_of _ v (sym at.1 ∙ busy))) in
-    let among : (e : ℕ) → is_among e (edges_at graph v) ≡ is_actor a (fork_at w b.forks.items e).mark.pinner
-    = pins_are graph v (λ e. is_actor a (fork_at w b.forks.items e).mark.pinner) here (λ s e i at. c.requires.board.ready w a v e s q ready fresh busy i at) in
-    let swapped : AreExchanged b.forks.items (edges_at graph v) c.exchange.new.forks.items = subst (λ es. AreExchanged b.forks.items es c.exchange.new.forks.items) c.edges_of.ensures.value c.exchange.ensures.exchanged in
     let alone : (o : ℕ) → (actor_at b.actors.items o).vertex ≡ Some v → o ≡ a = λ o p. some_of o a (sym (c.requires.board.names d o v p) ∙ c.requires.board.names d a v busy) in
-    let shown = enter_shows w d b.seats.items b.forks.items c.exchange.new.forks.items b.replicas.items b.actors.items b.turn b.journal.items a v (edges_at graph v) c.index-record.result.now q c.index_mut-seat.result.now c.swap.new.x c.swap.new.y c.make_stale.new.row (c.len-number.result + 1) c.len-stale.result
-    c.requires.actor v_in row_in actor_is seat_is c.swap.ensures.x_after swapped row_is among busy ready alone in
+    let shown = enter_shows w d b.seats.items b.forks.items b.replicas.items b.actors.items b.turn b.journal.items a v c.index-record.result.now q c.index_mut-seat.result.now c.swap.new.x c.swap.new.y c.make_stale.new.row (c.len-number.result + 1) c.len-stale.result
+    c.requires.actor v_in row_in actor_is seat_is c.swap.ensures.x_after row_is busy ready alone in
     let room : length b.journal.items < b.fuel = omega (arith, c.if-number-self.false, c.len-number.ensures) in
     let number : c.len-number.result ≡ length b.journal.items = omega (arith, c.len-number.ensures) in (
       v,
@@ -103,8 +76,8 @@ returns-clause-acts g c = λ w d.
       busy,
       turn,
       fresh,
-      planned_is w d b.seats.items b.forks.items c.exchange.new.forks.items b.replicas.items b.actors.items b.turn b.journal.items a v (edges_at graph v) c.index-record.result.now q c.index_mut-seat.result.now c.swap.new.x c.swap.new.y c.make_stale.new.row (c.len-number.result + 1) c.len-stale.result
-          c.requires.actor v_in row_in actor_is seat_is c.swap.ensures.x_after swapped row_is among busy ready alone,
+      planned_is w d b.seats.items b.forks.items b.replicas.items b.actors.items b.turn b.journal.items a v c.index-record.result.now q c.index_mut-seat.result.now c.swap.new.x c.swap.new.y c.make_stale.new.row (c.len-number.result + 1) c.len-stale.result
+          c.requires.actor v_in row_in actor_is seat_is c.swap.ensures.x_after row_is busy ready alone,
       room,
       ap (core_from _ _ _ (actor_at (slice_set b.actors.items a (record c.index-record.result.now { committed = true; ready = None; before = c.index_mut-seat.result.now.datum; stale = c.len-stale.result }))) b.turn) c.push_reserved.ensures.items ∙ shown,
       ap Entered number,
@@ -129,7 +102,7 @@ returns-clause-frame g c =
       caches = refl;
       seats = grind (arith, common_steps);
       replicas = grind (arith, common_steps);
-      forks = c.exchange.ensures.len;
+      forks = refl;
       actors = grind (arith, common_steps);
     }
 
@@ -151,8 +124,7 @@ returns-clause-tallied g c =
     let long : c.len-stale.result ≡ length (replicas_at b.replicas.items v)
     = omega (arith, c.len-stale.ensures, ap (λ (r : Vec Replica Global). length r.items) c.index.ensures, ap length (row_at b.replicas.items v c.index.result.now row_in)) in
     record {
-      pinned = pins_actor c.exchange.new.forks.items b.actors.items
-          (pins_forks b.forks.items b.actors.items counted.pinned c.exchange.new.forks.items c.exchange.ensures.len (exchanged_pinner b.forks.items c.exchange.new.forks.items _ c.exchange.ensures.exchanged)) a _ c.requires.actor (ap (λ (z : Actor). z.pinned) actor_is);
+      pinned = pins_actor b.forks.items b.actors.items counted.pinned a _ c.requires.actor (ap (λ (z : Actor). z.pinned) actor_is);
       stale = stale_row b.replicas.items b.actors.items counted.stale a _ c.requires.actor v c.make_stale.new.row row_in vertex_is refl (long ∙ sym (ap stale_among row_is ∙ all_are_stale (replicas_at b.replicas.items v))) alone;
       last = subst (AreLastKept _) (sym c.push_reserved.ensures.items) (last_more b.seats.items b.journal.items counted.last v _ v_in _ refl (omega (arith, c.len-number.ensures)));
     }

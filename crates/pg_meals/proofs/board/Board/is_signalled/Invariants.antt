@@ -5,4 +5,4 @@ use Rattle.pg_meals.proofs.board.Board.is_signalled.Given as goal
 
 -- the forks so far have no message for the vertex
 abbrev pub invariant-loop-edge : goal.invariant-loop-edge
-invariant-loop-edge g l = (i : ℕ) → i < l.edge-index → rides_to l.graph l.self.forks.items l.vertex (slice_index_or (edges_at l.graph l.vertex) i 0) ≡ false
+invariant-loop-edge g l = (i : ℕ) → i < l.edge-index → rides_to l.graph l.self l.vertex (slice_index_or (edges_at l.graph l.vertex) i 0) ≡ false

@@ -7,9 +7,10 @@ use Rattle.pg_meals.specs.declared.actor.Ready.{Ready}
 use Rattle.pg_meals.specs.Words.{pinned}
 use Rattle.pg_meals.specs.Acts.{clean_at, got_of}
 use Rattle.pg_meals.specs.Entries.{is_actor, no_fork, idle, seat_at, fork_at, actor_at, replicas_at, at_side, got_in}
-use Rattle.pg_meals.specs.Shown.{core_of}
+use Rattle.pg_meals.specs.Shown.{carried, core_of}
 use Rattle.pg_meals.proofs.ListReads.{read_any}
 use Rattle.pg_meals.proofs.Marking.{pin_shows, free_of}
+use Rattle.pg_meals.proofs.Riding.{lone_carries}
 use Rattle.pg_meals.proofs.Tallied.{pins_more, stale_actor, left_of}
 use Rattle.pg_meals.proofs.board.Board.pin.Goals as goal
 
@@ -26,13 +27,15 @@ returns-clause-acts g c = λ w d.
     let lone : (fork_at w b.forks.items e).mark.pinner ≡ None = c.requires.board.free w e (free_of (fork_at w b.forks.items e).mark.word c.in-Some.me (got_in c.in-Some-get.got) gets) in
     let now_is = c.index_mut.ensures.value ∙ read_any b.forks.items e c.index_mut.result.now (no_fork w) e_in in
     let found_is = c.index-2.ensures ∙ read_any b.forks.items e c.index-2.result.now (no_fork w) e_in in
-    let found : c.waits-found.result ≡ is_some (at_side c.in-Some.me (fork_at w b.forks.items e).content).message = c.waits-found.ensures ∙ ap (λ (z : Fork _). is_some (at_side c.in-Some.me z.content).message) found_is in
-    let known : c.shows-evidence.result ≡ ((actor_at b.actors.items a).evidence || is_some (at_side c.in-Some.me (fork_at w b.forks.items e).content).message || clean_at (fork_at w b.forks.items e).mark.word c.in-Some.me)
+    let carries = lone_carries (actor_at b.actors.items) (fork_at w b.forks.items e) lone in
+    let found : c.waits-found.result ≡ is_some (at_side c.in-Some.me (carried (actor_at b.actors.items) (fork_at w b.forks.items e))).message
+    = c.waits-found.ensures ∙ (ap (λ (z : Fork _). is_some (at_side c.in-Some.me z.content).message) found_is ∙ ap (λ x. is_some (at_side c.in-Some.me x).message) (sym carries)) in
+    let known : c.shows-evidence.result ≡ ((actor_at b.actors.items a).evidence || is_some (at_side c.in-Some.me (carried (actor_at b.actors.items) (fork_at w b.forks.items e))).message || clean_at (fork_at w b.forks.items e).mark.word c.in-Some.me)
     = c.shows-evidence.ensures ∙ (λ j. (actor_is j).evidence || found j || clean_at (fork_is j).mark.word c.in-Some.me) in
     let fresh : (actor_at b.actors.items a).committed ≡ false = ap (λ (z : Actor). z.committed) (sym actor_is) ∙ c.if-record.false in
     let unready : (x : Ready) → (actor_at b.actors.items a).ready ≡ Some x → ⊥ = λ x q. true≢false (sym (c.requires.board.ready w a (end_at c.args.graph.now c.in-Some.me e) e c.in-Some.me x q fresh busy c.requires.edge refl) ∙ ap (is_actor a) lone) in
     let shown = pin_shows w (seat_at d b.seats.items) b.forks.items (replicas_at b.replicas.items) b.actors.items b.turn b.journal.items a e c.index-record.result.now c.index_mut.result.now c.in-Some-get.got.word c.in-Some-get.got.taken c.shows-evidence.result _
-    c.requires.actor e_in actor_is now_is (ap (λ (z : Fork _). z.mark.pinner) now_is ∙ lone) unready in (
+    c.requires.actor e_in actor_is now_is (ap (λ (z : Fork _). z.mark.pinner) now_is ∙ lone) fresh unready in (
       end_at c.args.graph.now c.in-Some.me e,
       c.in-Some.me,
       got_in c.in-Some-get.got,

@@ -18,6 +18,6 @@ pub returns-clause-caches : goal.returns-clause-caches
 returns-clause-caches g c = λ cut.
     let p = g.P.VertexProgram.meaning c.self.inside.program.now in
     let graph = c.self.inside.graph.now in
-    let true_of = caches_left p c.laws_of.ensures graph c.self.inside.opening c.self.inside.board c.self.invariant.0 c.cells_left-caches.result c.cells_left-caches.ensures.left cut in
+    let true_of = caches_left p c.laws_of.ensures graph c.self.inside.opening c.self.inside.board c.self.invariant.0 c.if-not-is_free.ensures c.cells_left-caches.result c.cells_left-caches.ensures.left cut in
     subst (λ (x : Table _ _). AreCaches (g.P.VertexProgram.meaning x.program) x.graph cut c.state_left-state.result c.cells_left-caches.result) c.self.view_is
     (subst (λ s. AreCaches p graph cut s c.cells_left-caches.result) (sym c.state_left-state.ensures) true_of)
