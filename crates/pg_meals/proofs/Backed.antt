@@ -1,7 +1,6 @@
 -- A board after a fork went back shows the core after it.
 use Rattle.std.proofs.Common.{ℕ, ◌<◌, ◌≡◌, ◌≢◌, ◌&&◌, length, List, slice_set, false, cond, Option, Some, None, refl, sym, ap, ◌∙◌}
 use Rattle.std.proofs.lemmas.List.{get_or-set_same, get_or-set_other}
-use Rattle.pg_law.specs.declared.values.Datum.{Datum}
 use Rattle.pg_law.specs.declared.values.JournalEntry.{JournalEntry}
 use Rattle.pg_forks.specs.declared.fork_word.ForkWord.{ForkWord}
 use Rattle.pg_meals.specs.declared.fork.Carried.{Carried}
@@ -19,11 +18,10 @@ use Rattle.pg_meals.proofs.ListReads.{read_as}
 use Rattle.pg_meals.proofs.Riding.{held_carries, carried_like}
 use Rattle.pg_meals.proofs.Showing.{as_set, kept, other_grip, other_notes}
 
-module _ {A : Type 0} (w : ℕ) (seats : ℕ → Seat A) (forks : List (Fork A)) (replicas : ℕ → List Replica) (actors : List Actor) (turn : Option ℕ) (journal : List JournalEntry) (a e : ℕ) (r : Actor) (f : Fork A) (word : ForkWord) (content spare : Carried A) (count : ℕ) (noted : Option Datum)
+module _ {A : Type 0} (w : ℕ) (seats : ℕ → Seat A) (forks : List (Fork A)) (replicas : ℕ → List Replica) (actors : List Actor) (turn : Option ℕ) (journal : List JournalEntry) (a e : ℕ) (r : Actor) (f : Fork A) (word : ForkWord) (content spare : Carried A) (count : ℕ)
     (a_in : a < length actors) (e_in : e < length forks) (r_is : r ≡ actor_at actors a) (f_is : f ≡ fork_at w forks e) (mine : f.mark.pinner ≡ Some a) (content_is : content ≡ cond r.committed f.prepared f.content) where
-  -- what is noted in a fork that nobody has pinned isn't shown
   abbrev x : Fork A
-  x = record { mark = record { word = word; pinner = None; taken = false; noted = noted }; content = content; prepared = spare }
+  x = record { mark = record { word = word; pinner = None; taken = false; noted = None }; content = content; prepared = spare }
 
   abbrev y : Actor
   y = record r { ready = None; pinned = count }

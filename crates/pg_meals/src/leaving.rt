@@ -11,8 +11,8 @@ use pg_forks::{ForkWord, Why};
 use pg_graph::Graph;
 use std::mem::swap;
 
-/// The fork rests with this word. Where its pinner has made its entry, what that prepared rides on it
-/// from now on.
+/// The fork rests with this word. Where its pinner has made its entry, its content is what was
+/// prepared for it.
 fn rest<A: Drop>(fork: &mut Fork<A>, word: ForkWord, entered: bool)
     ensures mark { fork.new.mark
         ≡ record { word = word; pinner = None; taken = false; noted = None } }

@@ -41,7 +41,7 @@ returns-clause-acts g c = λ w d.
     let rested = c.rest.new.fork in
     let shown = ap (λ x. core_from (seat_at d b.seats.items) (fork_at w (slice_set b.forks.items e x)) (replicas_at b.replicas.items) (actor_at (slice_set b.actors.items a (record c.index-record.result.now { ready = None; pinned = c.index-record.result.now.pinned - 1 }))) b.turn b.journal.items)
     (λ j. record { mark = c.rest.ensures.mark j; content = rested.content; prepared = rested.prepared })
-    ∙ back_shows w (seat_at d b.seats.items) b.forks.items (replicas_at b.replicas.items) b.actors.items b.turn b.journal.items a e c.index-record.result.now c.index_mut.result.now c.in-Some-back.word rested.content rested.prepared (c.index-record.result.now.pinned - 1) None
+    ∙ back_shows w (seat_at d b.seats.items) b.forks.items (replicas_at b.replicas.items) b.actors.items b.turn b.journal.items a e c.index-record.result.now c.index_mut.result.now c.in-Some-back.word rested.content rested.prepared (c.index-record.result.now.pinned - 1)
     c.requires.actor e_in actor_is now_is (ap (λ (z : Fork _). z.mark.pinner) now_is ∙ pinned) c.rest.ensures.content in (
       end_at c.args.graph.now me e,
       me,
