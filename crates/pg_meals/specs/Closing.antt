@@ -1,4 +1,4 @@
--- What a table leaves when it is closed.
+-- What a table leaves when it is closed. No fork is pinned then, so each carries its content.
 use Rattle.std.specs.Prelude.{ℕ, zero, suc, ◌≡◌, ◌<◌, ◌≤◌, ◌==◌, ◌||◌, length, List, [], Bool, true, false, cond, Option, Some, None, is_some, Vec, map}
 use Rattle.std.specs.Vec.{vec_capacity}
 use Rattle.std.specs.declared.alloc.Global.{Global}
@@ -29,7 +29,7 @@ abbrev pub for_end : {X : Type 0} → Multigraph → ℕ → ℕ → X → X →
 for_end g v e source target none =
     cond (end_at g Source e == v) source (cond (end_at g Target e == v) target none)
 
--- the message for v on the fork of e, where nobody has pinned that: then it carries its content
+-- the message for v on the fork of e
 abbrev pub ride_for : {A : Type 0} → Multigraph → List (Fork A) → ℕ → ℕ → Option ℕ
 ride_for g forks v e = for_end g v e
     (fork_at 0 forks e).content.source.message (fork_at 0 forks e).content.target.message None

@@ -1,4 +1,5 @@
--- What is prepared of a board's forks, over a list of edges.
+-- What is prepared of a board's forks, over a list of edges. Who prepares has pinned them and
+-- hasn't committed, so each carries its content.
 use Rattle.std.specs.Prelude.{ℕ, ◌≡◌, ◌<◌, length, List, fold, Bool, true, cond, Option, Some, None}
 use Rattle.pg_graph.specs.declared.edge.Side.{Side}
 use Rattle.pg_graph.specs.declared.edge.Side.TheVariants.{Source, Target}

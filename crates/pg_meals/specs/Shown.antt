@@ -23,7 +23,7 @@ abbrev pub has_entered : (ℕ → Actor) → Option ℕ → Bool
 has_entered actors None = false
 has_entered actors (Some a) = (actors a).committed
 
--- what a fork carries: from the entry of its pinner on what that prepared for it
+-- what a fork carries: its content, or once its pinner has made its entry what was prepared for it
 abbrev pub carried : {A : Type 0} → (ℕ → Actor) → Fork A → Carried A
 carried actors x = cond (has_entered actors x.mark.pinner) x.prepared x.content
 

@@ -10,8 +10,8 @@ use pg_graph::Graph;
 impl<A: Drop> Board<A> {
     /// What the fork of an edge carries.
     ///
-    /// An entry leaves the forks of its vertex alone. From then until each goes back it carries what
-    /// was prepared for it, and its `content` is what it carried before.
+    /// An entry leaves the forks of its vertex alone. From then until each goes back it carries
+    /// what was prepared for it, and its `content` is what it carried before.
     pub fn content(&self, graph: &Graph, edge: u32) -> &Carried<A>
         requires edge { edge < length graph.now.edges }
         requires board { IsBoard graph.now self.now }

@@ -153,8 +153,8 @@ fn clear_waiting<A: Drop>(graph: &Graph, forks: &[Fork<A>], cells: &mut Vec<Cach
     }
 }
 
-/// The state for which a board stands of which nobody holds anything, in the lists of that from which
-/// it began.
+/// The state for which a board stands of which nobody holds anything, in the lists of that from
+/// which it began.
 pub fn state_left<P: VertexProgram>(
     program: &P,
     graph: &Graph,

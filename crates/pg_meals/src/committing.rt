@@ -24,8 +24,8 @@ fn make_stale(row: &mut Vec<Replica>)
 impl<A: Drop> Board<A> {
     /// The actor makes the entry of its vertex: the vertex and its forks become what was prepared.
     ///
-    /// It takes the turn, and room in the journal. The forks are left as they are, and carry what was
-    /// prepared for them since their pinner has committed.
+    /// It takes the turn, and room in the journal. The forks are left as they are, and carry what
+    /// was prepared for them since their pinner has committed.
     pub fn commit(&mut self, graph: &Graph, actor: u32) -> Option<u64>
         requires actor { actor < length self.old.actors.items }
         requires board { IsBoard graph.now self.old }

@@ -32,7 +32,8 @@ pub struct Mark {
 
 /// One edge: its mark, what rides on it, and what its pinner prepared to ride on it.
 ///
-/// While a pinner that has committed has it, `prepared` rides on it, and `content` is what did before.
+/// While an actor has it pinned that has committed, `prepared` rides on it, and `content` is what
+/// did before.
 #[derive(Drop)]
 pub struct Fork<A> {
     pub mark: Mark,

@@ -30,7 +30,8 @@ fn rest<A: Drop>(fork: &mut Fork<A>, word: ForkWord, entered: bool)
 }
 
 impl<A: Drop> Board<A> {
-    /// The actor gives back the fork of an edge. What it noted over it and prepared is forgotten.
+    /// The actor gives back the fork of an edge. What it noted over it is forgotten, and so is what
+    /// it prepared, unless it has committed: that is the fork's content then.
     pub fn back(&mut self, graph: &Graph, actor: u32, edge: u32) -> bool
         requires actor { actor < length self.old.actors.items }
         requires edge { edge < length graph.now.edges }
