@@ -26,7 +26,7 @@ use Rattle.pg_words.specs.declared.job.RunJob.{RunJob}
 use Rattle.pg_words.specs.declared.job.Job.{Job}
 use Rattle.pg_words.specs.declared.job.Job.TheVariants as job
 
--- where an option may stand behind a program by an engine
+-- where an option may stand behind a program by an engine, and behind `check` and these
 abbrev pub run_takes : EngineName → ProgramWord → OptionName → Bool
 run_takes engine program option.Format = true
 run_takes engine program option.Workers = true
@@ -40,11 +40,6 @@ run_takes engine program option.Source = has_source program
 run_takes engine program option.Tolerance = has_tolerance program
 run_takes engine program option.Cache = has_cache program
 
--- where an option may stand behind `check`: where it may behind the run, but gathers aren't kept
-abbrev pub check_takes : EngineName → ProgramWord → OptionName → Bool
-check_takes engine program option.Cache = false
-check_takes engine program option = run_takes engine program option
-
 -- where an option may stand behind `cut`
 abbrev pub cut_takes : OptionName → Bool
 cut_takes option.Format = true
@@ -56,7 +51,7 @@ cut_takes _ = false
 -- where an option may stand
 abbrev pub takes : Head → OptionName → Bool
 takes (heads.Run engine program) option = run_takes engine program option
-takes (heads.Check engine program) option = check_takes engine program option
+takes (heads.Check engine program) option = run_takes engine program option
 takes heads.Cut option = cut_takes option
 
 -- no option stands

@@ -1,6 +1,6 @@
 //! The words before the options.
 ghost use Rattle.std.specs.Prelude.{◌≡◌};
-ghost use Rattle.pg_words.specs.Options.{takes, run_takes, check_takes, cut_takes};
+ghost use Rattle.pg_words.specs.Options.{takes, run_takes, cut_takes};
 
 use crate::names::{EngineName, OptionName, ProgramWord};
 
@@ -22,13 +22,13 @@ impl Head {
     {
         match self {
             Head::Run(engine, program) => run_takes(engine, program, option),
-            Head::Check(engine, program) => check_takes(engine, program, option),
+            Head::Check(engine, program) => run_takes(engine, program, option),
             Head::Cut => cut_takes(option),
         }
     }
 }
 
-/// Whether an option may stand behind a program by an engine.
+/// Whether an option may stand behind a program by an engine, that runs or whose report is checked.
 fn run_takes(engine: EngineName, program: ProgramWord, option: OptionName) -> bool
     ensures { result ≡ run_takes engine program option }
 {
@@ -44,16 +44,6 @@ fn run_takes(engine: EngineName, program: ProgramWord, option: OptionName) -> bo
         OptionName::Source => program.has_source(),
         OptionName::Tolerance => program.has_tolerance(),
         OptionName::Cache => program.has_cache(),
-    }
-}
-
-/// Whether an option may stand behind `check` and the run whose report is checked.
-fn check_takes(engine: EngineName, program: ProgramWord, option: OptionName) -> bool
-    ensures { result ≡ check_takes engine program option }
-{
-    match option {
-        OptionName::Cache => false,
-        _ => run_takes(engine, program, option),
     }
 }
 

@@ -60,7 +60,8 @@ pub enum CutKind {
 ///
 /// Where its report is checked, the engine says whose report it is, and with which limit.
 /// `workers` is 1 to 64. With `cache` the gathers of vertices are kept from one execution to the
-/// next, which rounds and actors of a program do whose scatters tell how a gather changes.
+/// next, which rounds and actors of a program do whose scatters tell how a gather changes; a report
+/// that is checked is then one that counts the gathers of each vertex once.
 #[derive(Clone, Copy, Debug, PartialEq, Eq)]
 pub struct RunJob {
     pub engine: Engine,

@@ -15,4 +15,6 @@ pub use names::EngineName;
 pub use reading::{Usage, read_words};
 
 #[cfg(test)]
+mod check_tests;
+#[cfg(test)]
 mod tests;
