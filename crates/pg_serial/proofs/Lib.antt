@@ -9,3 +9,4 @@ pub mod Serials
 pub mod Waiting
 pub mod WordsSent
 pub mod Running
+pub mod Degrees

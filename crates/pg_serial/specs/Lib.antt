@@ -3,3 +3,4 @@ pub mod Journals
 pub mod Serial
 pub mod Bits
 pub mod Queue
+pub mod Distinct

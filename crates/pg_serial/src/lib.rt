@@ -4,6 +4,7 @@
 mod bits;
 mod entries;
 mod execution;
+mod noted;
 mod replaying;
 mod scatter;
 mod serial;
@@ -12,6 +13,7 @@ mod writing;
 
 pub use entries::{ROOM, flush, put_entry};
 pub use execution::{execute, execute_signalled};
+pub use noted::{degree_over, noted_gathers};
 pub use replaying::{Replayed, replay};
 pub use scatter::Sent;
 pub use serial::run_serial;
