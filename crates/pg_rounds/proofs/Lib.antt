@@ -4,3 +4,4 @@ pub mod Gathering
 pub mod Visiting
 pub mod Steps
 pub mod Sweeping
+pub mod Executing
