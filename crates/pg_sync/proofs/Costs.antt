@@ -15,7 +15,9 @@ use Rattle.pg_law.specs.Configuration.{Configuration, signalled, is_signalled, i
 use Rattle.pg_law.specs.Round.{edges_over, near_of, outcomes, values_after, scatter_by, from_source, from_target, round}
 use Rattle.pg_law.specs.Rounds.{gathers_in}
 use Rattle.pg_delta.specs.Deltas.{joined}
-use Rattle.pg_sync.specs.Kept.{delta_in, told, is_clear, unkept, kept_now, delta_over, delta_of, kept_after, cost_of_rounds, gather_degree, gather_degree_on, cached_gathers, executes, NeverClears, CachedGathersAreShared, GathersAreDistinct}
+use Rattle.pg_rounds.specs.Executed.{executes}
+use Rattle.pg_rounds.proofs.Executing.{executes_none, executes_stop, executes_go}
+use Rattle.pg_sync.specs.Kept.{delta_in, told, is_clear, unkept, kept_now, delta_over, delta_of, kept_after, cost_of_rounds, gather_degree, gather_degree_on, cached_gathers, NeverClears, CachedGathersAreShared, GathersAreDistinct}
 use Rattle.pg_sync.proofs.Degrees.{both_tests}
 use Rattle.pg_sync.proofs.Summing.{sum_agree, sum_of_none, sum_of_both, exchanged, parts_count, edges_placed}
 
@@ -62,19 +64,6 @@ module _ {Acc Carry : Type 0} (p : Program Acc Carry) (g : Multigraph) where
       → cost_of_rounds p g cost kept s n ≡ sum_by cost (unkept g kept s) + cost_of_rounds p g cost (kept_after p g kept s) (round p g s) m
   unfolding cost_of_rounds
   cost_go cost kept s n m busy e = rw (e, add-one, busy) refl
-
-  executes_none : (s : Configuration) (u : ℕ) → executes p g s 0 u ≡ false
-  unfolding executes
-  executes_none s u = refl
-
-  executes_stop : (s : Configuration) (n u : ℕ) → is_quiet g s ≡ true → executes p g s n u ≡ false
-  unfolding executes
-  executes_stop s zero u quiet = refl
-  executes_stop s (suc n) u quiet = rw quiet refl
-
-  executes_go : (s : Configuration) (n m u : ℕ) → is_quiet g s ≡ false → n ≡ m + 1 → executes p g s n u ≡ (is_signalled s u || executes p g (round p g s) m u)
-  unfolding executes
-  executes_go s n m u busy e = rw (e, add-one, busy) refl
 
   after_agrees : (kept kept' : ℕ → Bool) (s : Configuration) (u : ℕ) → kept u ≡ kept' u → kept_after p g kept s u ≡ kept_after p g kept' s u
   after_agrees kept kept' s u same = ap (λ b. (b || is_signalled s u) && not (is_clear (delta_of p g s u))) same

@@ -12,6 +12,7 @@ use Rattle.pg_law.specs.Program.{Program}
 use Rattle.pg_law.specs.Monoid.{part}
 use Rattle.pg_law.specs.Configuration.{Configuration, signalled, is_signalled, is_quiet}
 use Rattle.pg_law.specs.Round.{edges_over, outcomes, values_after, from_source, from_target, round}
+use Rattle.pg_rounds.specs.Executed.{executed}
 use Rattle.pg_cut.specs.Cut.{Division, IsCutOf}
 use Rattle.pg_delta.specs.Deltas.{joined_over}
 
@@ -75,16 +76,6 @@ module _ {Acc Carry : Type 0} (p : Program Acc Carry) (g : Multigraph) where
   abbrev pub cached_gathers_on : Division → Configuration → ℕ → ℕ → ℕ
   cached_gathers_on cut s limit w =
       cost_of_rounds (gather_degree_on cut w) (λ u. false) s limit
-
-  -- whether a vertex executes in rounds until nothing is signalled, or so many
-  unfoldable pub executes : Configuration → ℕ → ℕ → Bool
-  executes s zero u = false
-  executes s (suc limit) u = cond (is_quiet g s) false
-      (is_signalled s u || executes (round p g s) limit u)
-
-  -- the distinct vertices that execute, ascending
-  abbrev pub executed : Configuration → ℕ → List ℕ
-  executed s limit = filter (executes s limit) (vertices g)
 
 module _ {Acc Carry : Type 0} (p : Program Acc Carry) where
   -- no scatter answers Clear
