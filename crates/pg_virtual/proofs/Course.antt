@@ -25,7 +25,7 @@ use Rattle.pg_serial.proofs.Journals.{replay-append, replay_none, legal_none}
 use Rattle.pg_serial.proofs.Waiting.{sent_then, front_then, front_longer, front_nothing}
 use Rattle.pg_virtual.specs.Interleaved.{IsJournal, Ran, RanInPart}
 use Rattle.pg_virtual.proofs.Legal.{legal-append, completed}
-use Rattle.pg_virtual.proofs.Degrees.{few_over}
+use Rattle.pg_serial.proofs.Degrees.{few_over}
 
 -- the entries so far are legal and lead to this state; of their texts all was sent but what waits, and they were counted
 pub record SoFar {Acc Carry : Type 0} (p : Program Acc Carry) (g : Multigraph) (text : JournalEntry → List ℕ) (fuel : ℕ)

@@ -1,5 +1,4 @@
 pub mod Same
-pub mod Degrees
 pub mod Putting
 pub mod Legal
 pub mod Made

@@ -1,26 +1,22 @@
 -- What a run by actors in some order leaves. Which order that is, no definition says.
-use Rattle.std.specs.Prelude.{ℕ, ◌≡◌, ◌==◌, Bool, true, false, cond, List, length, flat_map, filter, sum_by, Option}
-use Rattle.std.specs.List.{list_any}
+use Rattle.std.specs.Prelude.{ℕ, ◌≡◌, Bool, cond, List, length, flat_map, Option}
 use Rattle.std.specs.Io.KnownBytes.{append_known}
 use Rattle.pg_base.specs.Writing.{SendsFront}
-use Rattle.pg_graph.specs.Multigraph.{Multigraph, vertices}
+use Rattle.pg_graph.specs.Multigraph.{Multigraph}
 use Rattle.pg_law.specs.declared.values.JournalEntry.{JournalEntry}
 use Rattle.pg_law.specs.declared.async_end.AsyncEnd.{AsyncEnd}
 use Rattle.pg_law.specs.Program.{Program}
 use Rattle.pg_law.specs.Configuration.{Configuration}
 use Rattle.pg_law.specs.Rounds.{end_of}
 use Rattle.pg_law.specs.Journal.{replay, IsLegal, FitsFuel}
-use Rattle.pg_serial.specs.Journals.{gather_degree, gathers_over}
+use Rattle.pg_serial.specs.Distinct.{distinct_gathers}
+use Rattle.pg_serial.specs.Journals.{gathers_over}
 
 module _ {Acc Carry : Type 0} (p : Program Acc Carry) (g : Multigraph) where
-  -- the distinct vertices of a journal, ascending
-  abbrev pub executed_in : List JournalEntry → List ℕ
-  executed_in journal = filter (λ v. list_any (λ entry. entry.vertex == v) journal) (vertices g)
-
   -- over how many edges its executions gather; where gathers are kept, each vertex counts once
   abbrev pub gathers_in : Bool → List JournalEntry → ℕ
   gathers_in kept journal =
-      cond kept (sum_by (gather_degree p g) (executed_in journal)) (gathers_over p g journal)
+      cond kept (distinct_gathers p g journal) (gathers_over p g journal)
 
   -- a journal that is legal from a state and fits a fuel
   pub record IsJournal (s : Configuration) (fuel : ℕ) (journal : List JournalEntry) : Type 0 where

@@ -7,6 +7,7 @@ ghost use Rattle.pg_law.specs.Round.{edges_over};
 
 use pg_graph::{Dir, Graph};
 use pg_law::JournalEntry;
+use pg_serial::{degree_over, noted_gathers};
 use std::alloc::{AllocError, Global};
 
 /// The gathers of all entries so far, and the vertices that have one. `seen` is indexed by vertices.
@@ -14,22 +15,6 @@ use std::alloc::{AllocError, Global};
 pub struct Tally {
     pub seen: Vec<bool>,
     pub all: u64,
-}
-
-/// How many edges a direction takes in at a vertex.
-fn degree_over(graph: &Graph, dir: Dir, v: u32) -> u64
-    requires { v < length graph.now.ids }
-    ensures value { result ≡ length (edges_over dir graph.now v) }
-    ensures few { result ≤ 2 ^ 24 }
-{
-    let _ = graph.vertices();
-    let info = graph.info(v);
-    match dir {
-        Dir::NoEdges => 0,
-        Dir::InEdges => info.in_degree as u64,
-        Dir::OutEdges => info.out_degree as u64,
-        Dir::AllEdges => info.in_degree as u64 + info.out_degree as u64,
-    }
 }
 
 impl Tally {
@@ -65,34 +50,6 @@ impl Tally {
         }
     }
 
-    /// The gathers of a vertex, if it has an entry.
-    fn share(&self, graph: &Graph, dir: Dir, v: u32) -> u64
-        requires v { v < length graph.now.ids }
-        requires len { length self.now.seen.items ≡ length graph.now.ids }
-        ensures value { result ≡ (if slice_index_or self.now.seen.items v false
-            then length (edges_over dir graph.now v) else 0) }
-        ensures few { result ≤ 2 ^ 24 }
-    {
-        if self.seen[v as usize] {
-            degree_over(graph, dir, v)
-        } else {
-            0
-        }
-    }
-
-    /// The gathers of the distinct vertices.
-    pub fn distinct(&self, graph: &Graph, dir: Dir) -> u64
-        requires len { length self.now.seen.items ≡ length graph.now.ids }
-        ensures { result ≡ sum_by (λ v. length (edges_over dir graph.now v))
-            (filter (λ v. slice_index_or self.now.seen.items v false) (vertices graph.now)) }
-    {
-        let mut sum = 0u64;
-        for v in 0..graph.vertices() {
-            sum += self.share(graph, dir, v);
-        }
-        sum
-    }
-
     /// The gathers of a run. Where gathers are kept, each vertex counts once.
     pub fn gathers(&self, graph: &Graph, dir: Dir, kept: bool) -> u64
         requires len { length self.now.seen.items ≡ length graph.now.ids }
@@ -101,7 +58,7 @@ impl Tally {
             else self.now.all) }
     {
         if kept {
-            self.distinct(graph, dir)
+            noted_gathers(graph, dir, self.seen.as_slice())
         } else {
             self.all
         }
