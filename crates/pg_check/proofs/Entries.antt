@@ -158,9 +158,9 @@ module _ {Acc Carry : Type 0} (p : Program Acc Carry) (name : ProgramName) (g : 
   }
 
   pub an_entry : (s new : Configuration) (left u gathers : ℕ) (line : ReadLine) → vertex_of p name g s line ≡ Some u → 0 < left
-      → new ≡ execution p g s u → gathers ≡ gather_degree p g u → gathers ≤ 2 ^ 24 → IsEntry p name g s new left (Some line) gathers
-  an_entry s new left u gathers line one some executed degree few = record {
-    vertex = u;
+      → u < length g.ids → new ≡ execution p g s u → gathers ≡ gather_degree p g u → gathers ≤ 2 ^ 24 → IsEntry p name g s new left (Some line) u gathers
+  an_entry s new left u gathers line one some inside executed degree few = record {
+    within = inside;
     some = some;
     there = refl;
     executed = executed;

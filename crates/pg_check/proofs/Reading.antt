@@ -23,14 +23,13 @@ use Rattle.pg_report.specs.Lines.{line_text}
 use Rattle.pg_report.specs.Report.{counts_line}
 use Rattle.pg_report.specs.declared.line.ReportLine.{ReportLine}
 use Rattle.pg_report.specs.declared.line.ReportLine.TheVariants as line
-use Rattle.pg_serial.specs.Journals.{gathers_over}
 use Rattle.pg_words.specs.declared.job.Engine.{Engine}
 use Rattle.pg_words.specs.declared.job.Engine.TheVariants.{Sync, Serial, Virtual}
 use Rattle.pg_words.specs.declared.job.ProgramName.{ProgramName}
 use Rattle.pg_check.specs.Outcomes.{engine_name}
 use Rattle.pg_check.specs.Reports.{ReadLine, read_line, read_report, has_text, tail_lines}
 use Rattle.pg_check.specs.Verdicts.{Judge, ends, expects, judges, journal_in, verdict_by, gathers_by, lines_for, event_in, event_for}
-use Rattle.pg_check.specs.Course.{last_of, lines_from, full, replays_from, behind_counts, expects_from, gathers_from, gathers_made, GoesOn, IsConfirmed, IsRejected, IsTaken}
+use Rattle.pg_check.specs.Course.{last_of, lines_from, full, told_gathers, replays_from, behind_counts, expects_from, gathers_from, gathers_made, GoesOn, IsConfirmed, IsRejected, IsTaken}
 use Rattle.pg_check.specs.declared.course.Course.{Course}
 use Rattle.pg_check.specs.declared.place.Place.{Place}
 use Rattle.pg_check.specs.declared.place.Place.TheVariants.{Counts, Journal, Tail}
@@ -102,11 +101,11 @@ one_event limit given (line ∷ later) =
     ]
 
 module _ {Acc Carry : Type 0} (p : Program Acc Carry) (name : ProgramName) (g : Multigraph) where
-  replays_later : (s : Configuration) (tally : Tally) (number : ℕ) (lines : List ReadLine) → IsFrom number (replays_from p name g s tally number lines)
-  replays_later s tally number lines =
+  replays_later : (kept : Bool) (noted : List Bool) (s : Configuration) (tally : Tally) (number : ℕ) (lines : List ReadLine) → IsFrom number (replays_from p name g kept noted s tally number lines)
+  replays_later kept noted s tally number lines =
       let more = journal_in p name g s tally.left lines in
       let now = replay p g s more in
-      let expected = tail_lines name g now (last_of g now (tally.executions + length more) (tally.gathers + gathers_over p g more)) in
+      let expected = tail_lines name g now (last_of g now (tally.executions + length more) (told_gathers p g kept noted tally.gathers more)) in
       let later = number + length more in
       from_cond (is_quiet g now || (length more == tally.left)) number (expects expected ends later (drop (length more) lines)) (Rejected later)
       (from_later number later (expects expected ends later (drop (length more) lines)) (omega arith)
@@ -114,37 +113,37 @@ module _ {Acc Carry : Type 0} (p : Program Acc Carry) (name : ProgramName) (g : 
       (omega arith)
 
   -- a course rejects no line that was read
-  course_later : (engine : Engine) (c : Course) (place : Place) (number : ℕ) (lines : List ReadLine)
-      → IsFrom number (expects_from p name g engine c place number lines)
-  course_later engine c Counts number lines = expects_later (counts_line g ∷ []) (behind_counts p name g engine c) (behind engine) number lines
+  course_later : (engine : Engine) (kept : Bool) (c : Course) (place : Place) (number : ℕ) (lines : List ReadLine)
+      → IsFrom number (expects_from p name g engine kept c place number lines)
+  course_later engine kept c Counts number lines = expects_later (counts_line g ∷ []) (behind_counts p name g engine kept c) (behind engine) number lines
     where
-      behind : (engine : Engine) (number : ℕ) (lines : List ReadLine) → IsFrom number (behind_counts p name g engine c number lines)
+      behind : (engine : Engine) (number : ℕ) (lines : List ReadLine) → IsFrom number (behind_counts p name g engine kept c number lines)
       behind (Sync limit) number lines = expects_later (tail_lines name g c.state c.last) ends ends_from number lines
-      behind (Serial fuel) number lines = replays_later c.state (full fuel) number lines
-      behind (Virtual fuel seed) number lines = replays_later c.state (full fuel) number lines
-  course_later engine c (Journal tally) number lines = replays_later c.state tally number lines
-  course_later engine c (Tail at) number lines = expects_later (lines_from name g c.state c.last at) ends ends_from number lines
+      behind (Serial fuel) number lines = replays_later kept c.noted.items c.state (full fuel) number lines
+      behind (Virtual fuel seed) number lines = replays_later kept c.noted.items c.state (full fuel) number lines
+  course_later engine kept c (Journal tally) number lines = replays_later kept c.noted.items c.state tally number lines
+  course_later engine kept c (Tail at) number lines = expects_later (lines_from name g c.state c.last at) ends ends_from number lines
 
-  module _ (engine : Engine) (limit start : ℕ) (first : Option ReadLine) where
+  module _ (engine : Engine) (kept : Bool) (limit start : ℕ) (first : Option ReadLine) where
     -- what was read behind the header, and what the course makes of the rest
     pub record IsRest (c : Course) (number given : ℕ) (text rest : List ℕ) : Type 0 where
       pub taken : List TextLine
       pub split : lines text ≡ taken ++ lines rest
       pub count : length taken + 1 ≡ number
       pub fits : (more : List TextLine) → event_in limit start (taken ++ more) ≡ event_in limit given more
-      pub verdict : verdict_by p name g engine (read_report first text)
-          ≡ expects_from p name g engine c c.place (number + 1) (map read_line (lines rest))
+      pub verdict : verdict_by p name g engine kept (read_report first text)
+          ≡ expects_from p name g engine kept c c.place (number + 1) (map read_line (lines rest))
       pub gathers : gathers_by p name g engine (read_report first text)
           ≡ gathers_from p name g engine c c.place (map read_line (lines rest))
 
     -- what is answered of the text
     pub record IsDone (verdict : Verdict) (text : List ℕ) : Type 0 where
-      pub is : verdict ≡ verdict_by p name g engine (read_report first text)
+      pub is : verdict ≡ verdict_by p name g engine kept (read_report first text)
       pub accepted : event_for limit start verdict text ≡ None
 
     pub begun : (c : Course) (header : ReadLine) (text : List ℕ) → first ≡ Some header → has_text (line_text (line.Head (engine_name engine) name)) header ≡ true
         → c.place ≡ Counts
-        → ((number : ℕ) (lines : List ReadLine) → judges p name g engine number lines ≡ behind_counts p name g engine c number lines)
+        → ((number : ℕ) (lines : List ReadLine) → judges p name g engine kept number lines ≡ behind_counts p name g engine kept c number lines)
         → ((front : ReadLine) (lines : List ReadLine) → gathers_by p name g engine (front ∷ lines) ≡ gathers_from p name g engine c Counts lines)
         → IsRest c 1 start text text
     begun c header text there head place judge gathers = record {
@@ -152,9 +151,9 @@ module _ {Acc Carry : Type 0} (p : Program Acc Carry) (name : ProgramName) (g : 
       split = refl;
       count = refl;
       fits = λ more. refl;
-      verdict = ap (λ (f : Option ReadLine). verdict_by p name g engine (read_report f text)) there
-          ∙ rw head (expects_as (counts_line g ∷ []) (judges p name g engine) (behind_counts p name g engine c) judge 2 (map read_line (lines text)))
-          ∙ ap (λ (at : Place). expects_from p name g engine c at 2 (map read_line (lines text))) (sym place);
+      verdict = ap (λ (f : Option ReadLine). verdict_by p name g engine kept (read_report f text)) there
+          ∙ rw head (expects_as (counts_line g ∷ []) (judges p name g engine kept) (behind_counts p name g engine kept c) judge 2 (map read_line (lines text)))
+          ∙ ap (λ (at : Place). expects_from p name g engine kept c at 2 (map read_line (lines text))) (sym place);
       gathers = ap (λ (f : Option ReadLine). gathers_by p name g engine (read_report f text)) there
           ∙ gathers header (map read_line (lines text))
           ∙ ap (λ (at : Place). gathers_from p name g engine c at (map read_line (lines text))) (sym place);
@@ -162,7 +161,7 @@ module _ {Acc Carry : Type 0} (p : Program Acc Carry) (name : ProgramName) (g : 
 
     module _ (c : Course) (number given : ℕ) (text rest : List ℕ) (so_far : IsRest c number given text rest) where
       abbrev verdict_now : Verdict
-      verdict_now = verdict_by p name g engine (read_report first text)
+      verdict_now = verdict_by p name g engine kept (read_report first text)
 
       -- a line that passes the limit, at the place of the next
       past : (v : Verdict) → IsFrom (number + 1) v → (line : TextLine) (later : List TextLine) → limit < given + width line
@@ -176,7 +175,7 @@ module _ {Acc Carry : Type 0} (p : Program Acc Carry) (name : ProgramName) (g : 
       pub over : 0 < length rest → limit < given + first_width rest → event_for limit start verdict_now text ≡ Some (Limit Bytes limit)
       over some far =
           let next = text_line (first_line rest) (has_feed rest) (later_lines rest) in
-          let from = subst (IsFrom (number + 1)) (sym so_far.verdict) (course_later engine c c.place (number + 1) (map read_line (lines rest))) in
+          let from = subst (IsFrom (number + 1)) (sym so_far.verdict) (course_later engine kept c c.place (number + 1) (map read_line (lines rest))) in
           ap (λ (all : List TextLine). event_in limit start (lines_for verdict_now all)) (so_far.split ∙ ap (λ (l : List TextLine). so_far.taken ++ l) (lines-first rest some))
           ∙ past verdict_now from next (lines (later_lines rest)) far
 
@@ -188,21 +187,21 @@ module _ {Acc Carry : Type 0} (p : Program Acc Carry) (name : ProgramName) (g : 
         no_event : event_in limit start so_far.taken ≡ None
         no_event = ap (event_in limit start) (sym (append-nil so_far.taken)) ∙ so_far.fits []
 
-        verdict_is : verdict_now ≡ expects_from p name g engine c c.place (number + 1) []
-        verdict_is = so_far.verdict ∙ ap (λ (bytes : List ℕ). expects_from p name g engine c c.place (number + 1) (map read_line (lines bytes))) nothing
+        verdict_is : verdict_now ≡ expects_from p name g engine kept c c.place (number + 1) []
+        verdict_is = so_far.verdict ∙ ap (λ (bytes : List ℕ). expects_from p name g engine kept c c.place (number + 1) (map read_line (lines bytes))) nothing
 
-        pub confirmed : (steps_old steps_new : ℕ) → IsConfirmed p name g engine c steps_old steps_new None (number + 1) → IsDone Confirmed text
+        pub confirmed : (steps_old steps_new : ℕ) → IsConfirmed p name g engine kept c steps_old steps_new None (number + 1) → IsDone Confirmed text
         confirmed steps_old steps_new is = record {
           is = sym (verdict_is ∙ is.verdict);
           accepted = ap (event_in limit start) all_taken ∙ no_event;
         }
 
-        pub gathered : (steps_old steps_new : ℕ) → IsConfirmed p name g engine c steps_old steps_new None (number + 1)
+        pub gathered : (steps_old steps_new : ℕ) → IsConfirmed p name g engine kept c steps_old steps_new None (number + 1)
             → gathers_by p name g engine (read_report first text) ≡ gathers_made p name g engine c c.place
         gathered steps_old steps_new is =
             so_far.gathers ∙ (ap (λ (bytes : List ℕ). gathers_from p name g engine c c.place (map read_line (lines bytes))) nothing ∙ is.gathers)
 
-        pub missing : (steps_old steps_new rejected : ℕ) → IsRejected p name g engine c steps_old steps_new None (number + 1) rejected → IsDone (Rejected rejected) text
+        pub missing : (steps_old steps_new rejected : ℕ) → IsRejected p name g engine kept c steps_old steps_new None (number + 1) rejected → IsDone (Rejected rejected) text
         missing steps_old steps_new rejected is = record {
           is = ap (λ (n : ℕ). Rejected n) is.here ∙ sym (verdict_is ∙ is.verdict []);
           accepted = ap (λ (all : List TextLine). event_in limit start (take (rejected - 1) all)) all_taken
@@ -223,20 +222,20 @@ module _ {Acc Carry : Type 0} (p : Program Acc Carry) (name : ProgramName) (g : 
         split_on : lines text ≡ so_far.taken ++ next_line ∷ lines (later_lines rest)
         split_on = so_far.split ∙ ap (λ (l : List TextLine). so_far.taken ++ l) lines_are
 
-        pub wrong : (steps_old steps_new rejected : ℕ) → IsRejected p name g engine c steps_old steps_new (Some (line, ended)) (number + 1) rejected → IsDone (Rejected rejected) text
+        pub wrong : (steps_old steps_new rejected : ℕ) → IsRejected p name g engine kept c steps_old steps_new (Some (line, ended)) (number + 1) rejected → IsDone (Rejected rejected) text
         wrong steps_old steps_new rejected is =
             let none_more : take (rejected - 1 - length so_far.taken - 1) (lines (later_lines rest)) ≡ [] =
             ap (λ (n : ℕ). take n (lines (later_lines rest))) (let zero_is : rejected - 1 - length so_far.taken - 1 ≡ 0 = omega (arith, is.here, so_far.count) in zero_is) in
             record {
               is = ap (λ (n : ℕ). Rejected n) is.here
-                  ∙ sym (so_far.verdict ∙ (ap (expects_from p name g engine c c.place (number + 1)) read_are ∙ is.verdict (map read_line (lines (later_lines rest)))));
+                  ∙ sym (so_far.verdict ∙ (ap (expects_from p name g engine kept c c.place (number + 1)) read_are ∙ is.verdict (map read_line (lines (later_lines rest)))));
               accepted = ap (λ (all : List TextLine). event_in limit start (take (rejected - 1) all)) split_on
                   ∙ (ap (event_in limit start) (take_on so_far.taken next_line (lines (later_lines rest)) (rejected - 1) (omega (arith, is.here, so_far.count))
                   ∙ ap (λ (l : List TextLine). so_far.taken ++ next_line ∷ l) none_more)
                   ∙ (so_far.fits (next_line ∷ []) ∙ fits_on limit given next_line [] fit));
             }
 
-        pub goes_on : (new : Course) (steps_old steps_new : ℕ) → GoesOn p name g engine c new steps_old steps_new (Some (line, ended)) (number + 1)
+        pub goes_on : (new : Course) (steps_old steps_new : ℕ) → GoesOn p name g engine kept c new steps_old steps_new (Some (line, ended)) (number + 1)
             → IsRest new (number + 1) (given + width_of (length line) ended) text (later_lines rest)
         goes_on new steps_old steps_new on = record {
           taken = so_far.taken ++ next_line ∷ [];
@@ -244,17 +243,17 @@ module _ {Acc Carry : Type 0} (p : Program Acc Carry) (name : ProgramName) (g : 
           count = omega (arith, so_far.count, length-append so_far.taken (next_line ∷ []));
           fits = λ more. (ap (event_in limit start) (append_assoc so_far.taken (next_line ∷ []) more)
               ∙ (so_far.fits (next_line ∷ more) ∙ fits_on limit given next_line more fit));
-          verdict = so_far.verdict ∙ (ap (expects_from p name g engine c c.place (number + 1)) read_are ∙ on.verdict (map read_line (lines (later_lines rest))));
+          verdict = so_far.verdict ∙ (ap (expects_from p name g engine kept c c.place (number + 1)) read_are ∙ on.verdict (map read_line (lines (later_lines rest))));
           gathers = so_far.gathers ∙ (ap (gathers_from p name g engine c c.place) read_are ∙ on.gathers (map read_line (lines (later_lines rest))));
         }
 
-        pub no_confirmed : (steps_old steps_new : ℕ) → IsConfirmed p name g engine c steps_old steps_new (Some (line, ended)) (number + 1) → ⊥
+        pub no_confirmed : (steps_old steps_new : ℕ) → IsConfirmed p name g engine kept c steps_old steps_new (Some (line, ended)) (number + 1) → ⊥
         no_confirmed steps_old steps_new is = none-some (line, ended) (sym is.none)
 
       -- what the next line, or the end, decides
       pub done : (raw : Option RawLine) (new : Course) (steps_old steps_new : ℕ) (verdict : Verdict)
           → IsFirstLine rest (shown raw) → OnSome raw ((0 < width_given (shown raw)) × (given + width_given (shown raw) ≤ limit))
-          → IsTaken p name g engine c new steps_old steps_new (shown raw) (number + 1) (Some verdict) → IsDone verdict text
+          → IsTaken p name g engine kept c new steps_old steps_new (shown raw) (number + 1) (Some verdict) → IsDone verdict text
       done None new steps_old steps_new Confirmed cut fit is = confirmed cut steps_old steps_new is
       done None new steps_old steps_new (Rejected rejected) cut fit is = missing cut steps_old steps_new rejected is
       done (Some raw) new steps_old steps_new Confirmed cut fit is = absurd (no_confirmed raw.bytes.now raw.ended cut fit.1 steps_old steps_new is)
@@ -263,7 +262,7 @@ module _ {Acc Carry : Type 0} (p : Program Acc Carry) (name : ProgramName) (g : 
       -- a confirmed report is over
       pub over_with : (raw : Option RawLine) (new : Course) (steps_old steps_new : ℕ) (verdict : Verdict)
           → IsFirstLine rest (shown raw) → OnSome raw ((0 < width_given (shown raw)) × (given + width_given (shown raw) ≤ limit))
-          → IsTaken p name g engine c new steps_old steps_new (shown raw) (number + 1) (Some verdict) → verdict ≡ Confirmed
+          → IsTaken p name g engine kept c new steps_old steps_new (shown raw) (number + 1) (Some verdict) → verdict ≡ Confirmed
           → (rest ≡ []) × (gathers_by p name g engine (read_report first text) ≡ gathers_made p name g engine c c.place)
       over_with None new steps_old steps_new Confirmed cut fit is same = (cut, gathered cut steps_old steps_new is)
       over_with None new steps_old steps_new (Rejected rejected) cut fit is same = absurd (cc)
@@ -272,21 +271,21 @@ module _ {Acc Carry : Type 0} (p : Program Acc Carry) (name : ProgramName) (g : 
 
       pub goes_on_with : (raw : Option RawLine) (new : Course) (steps_old steps_new : ℕ)
           → IsFirstLine rest (shown raw) → OnSome raw ((0 < width_given (shown raw)) × (given + width_given (shown raw) ≤ limit))
-          → GoesOn p name g engine c new steps_old steps_new (shown raw) (number + 1)
+          → GoesOn p name g engine kept c new steps_old steps_new (shown raw) (number + 1)
           → IsRest new (number + 1) (given + width_given (shown raw)) text (later_lines rest)
       goes_on_with None new steps_old steps_new cut fit on = absurd (false≢true on.there)
       goes_on_with (Some raw) new steps_old steps_new cut fit on = goes_on raw.bytes.now raw.ended cut fit.1 new steps_old steps_new on
 
 -- a verdict comes after some steps
-pub steps_later : {Acc Carry : Type 0} (p : Program Acc Carry) (name : ProgramName) (g : Multigraph) (engine : Engine) (old new : Course) (steps_old steps_new number : ℕ)
-    (line : Option ReadLine) (verdict : Verdict) → IsTaken p name g engine old new steps_old steps_new line number (Some verdict) → steps_old ≤ steps_new
-steps_later p name g engine old new steps_old steps_new number line Confirmed taken = let same = taken.steps in omega (arith, same)
-steps_later p name g engine old new steps_old steps_new number line (Rejected rejected) taken = taken.steps
+pub steps_later : {Acc Carry : Type 0} (p : Program Acc Carry) (name : ProgramName) (g : Multigraph) (engine : Engine) (kept : Bool) (old new : Course) (steps_old steps_new number : ℕ)
+    (line : Option ReadLine) (verdict : Verdict) → IsTaken p name g engine kept old new steps_old steps_new line number (Some verdict) → steps_old ≤ steps_new
+steps_later p name g engine kept old new steps_old steps_new number line Confirmed taken = let same = taken.steps in omega (arith, same)
+steps_later p name g engine kept old new steps_old steps_new number line (Rejected rejected) taken = taken.steps
 
-pub steps_same : {Acc Carry : Type 0} (p : Program Acc Carry) (name : ProgramName) (g : Multigraph) (engine : Engine) (old new : Course) (steps_old steps_new number : ℕ)
-    (line : Option ReadLine) (verdict : Verdict) → IsTaken p name g engine old new steps_old steps_new line number (Some verdict) → verdict ≡ Confirmed → steps_new ≡ steps_old
-steps_same p name g engine old new steps_old steps_new number line Confirmed taken same = taken.steps
-steps_same p name g engine old new steps_old steps_new number line (Rejected rejected) taken same = absurd (cc)
+pub steps_same : {Acc Carry : Type 0} (p : Program Acc Carry) (name : ProgramName) (g : Multigraph) (engine : Engine) (kept : Bool) (old new : Course) (steps_old steps_new number : ℕ)
+    (line : Option ReadLine) (verdict : Verdict) → IsTaken p name g engine kept old new steps_old steps_new line number (Some verdict) → verdict ≡ Confirmed → steps_new ≡ steps_old
+steps_same p name g engine kept old new steps_old steps_new number line Confirmed taken same = taken.steps
+steps_same p name g engine kept old new steps_old steps_new number line (Rejected rejected) taken same = absurd (cc)
 
 -- two facts of what is told
 pub both_some : (P Q : List ℕ → Type 0) (left : Option (List ℕ)) → IfSome left P → IfSome left Q → IfSome left (λ text. P text × Q text)

@@ -9,14 +9,13 @@ use Rattle.pg_law.specs.declared.values.JournalEntry.{JournalEntry}
 use Rattle.pg_law.specs.Configuration.{Configuration, start_state, is_quiet}
 use Rattle.pg_law.specs.Journal.{replay, IsLegal, FitsFuel}
 use Rattle.pg_law.specs.Program.{Program}
-use Rattle.pg_law.specs.Rounds.{rounds}
 use Rattle.pg_report.specs.Lines.{line_text}
 use Rattle.pg_report.specs.declared.line.ReportLine.{ReportLine}
 use Rattle.pg_words.specs.Programs.{is_wide}
 use Rattle.pg_words.specs.declared.job.Engine.{Engine}
 use Rattle.pg_words.specs.declared.job.Engine.TheVariants.{Sync, Serial, Virtual}
 use Rattle.pg_words.specs.declared.job.ProgramName.{ProgramName}
-use Rattle.pg_check.specs.Outcomes.{Outcome, after_rounds, after_journal, engine_name}
+use Rattle.pg_check.specs.Outcomes.{Outcome, left_by, engine_name}
 use Rattle.pg_check.specs.Reports.{ReadLine, read_line, has_text, entry_row, head_lines, tail_lines}
 use Rattle.pg_check.specs.Verdicts.{Judge, ends, expects, judges, journal_in, completes, verdict_by}
 use Rattle.pg_check.specs.Right.{report_lines, IsOutcome, IsRightText, ConfirmsRight, ConfirmedIsRight}
@@ -88,7 +87,7 @@ or_true quiet full (inl is) = rw is refl
 or_true true full (inr is) = refl
 or_true false full (inr is) = is
 
-module _ {Acc Carry : Type 0} (p : Program Acc Carry) (name : ProgramName) (g : Multigraph) where
+module _ {Acc Carry : Type 0} (p : Program Acc Carry) (name : ProgramName) (g : Multigraph) (kept : Bool) where
   abbrev start : Configuration
   start = start_state p g
 
@@ -109,13 +108,13 @@ module _ {Acc Carry : Type 0} (p : Program Acc Carry) (name : ProgramName) (g : 
 
   -- a legal journal that fits the fuel is confirmed
   replayed_right : (graph : IsMultigraph g) (fuel number : ℕ) (journal : List JournalEntry) → IsLegal p g start journal → FitsFuel p g start journal fuel
-      → judges p name g (Serial fuel) number (rows p name g journal ++ map ended_line (tail_of (after_journal p g journal))) ≡ Confirmed
+      → judges p name g (Serial fuel) kept number (rows p name g journal ++ map ended_line (tail_of (left_by p g (Serial fuel) kept journal))) ≡ Confirmed
   replayed_right graph fuel number journal legal fits =
-      let outcome = after_journal p g journal in
+      let outcome = left_by p g (Serial fuel) kept journal in
       let tail = map ended_line (tail_of outcome) in
       let all = rows p name g journal ++ tail in
       let found = rows_taken p name g graph journal start fuel tail legal fits.within fits.complete in
-      let Replay : List JournalEntry → Verdict = λ j. completes p name g fuel (after_journal p g j) (number + length j) (drop (length j) all) in
+      let Replay : List JournalEntry → Verdict = λ j. completes p name g fuel (left_by p g (Serial fuel) kept j) (number + length j) (drop (length j) all) in
       ap Replay found
       ∙ (rw (or_true (is_quiet g outcome.state) (length journal == fuel) (over fits.complete)) refl
       ∙ (ap (expects (tail_of outcome) ends (number + length journal)) (drop_at (rows p name g journal) tail (length journal) (length_rows journal))
@@ -126,31 +125,31 @@ module _ {Acc Carry : Type 0} (p : Program Acc Carry) (name : ProgramName) (g : 
       over (inr full) = inr (eq-eqb (length journal) fuel full)
 
   -- what a run may leave is confirmed behind its counts
-  behind_right : (graph : IsMultigraph g) (engine : Engine) (number : ℕ) (outcome : Outcome) → IsOutcome p g engine outcome
-      → judges p name g engine number (rows p name g outcome.journal ++ map ended_line (tail_of outcome)) ≡ Confirmed
+  behind_right : (graph : IsMultigraph g) (engine : Engine) (number : ℕ) (outcome : Outcome) → IsOutcome p g engine kept outcome
+      → judges p name g engine kept number (rows p name g outcome.journal ++ map ended_line (tail_of outcome)) ≡ Confirmed
   behind_right graph (Sync limit) number outcome left =
-      let run = after_rounds g (rounds p g start limit) in
-      ap (λ (o : Outcome). judges p name g (Sync limit) number (rows p name g o.journal ++ map ended_line (tail_of o))) left
+      let run = left_by p g (Sync limit) kept [] in
+      ap (λ (o : Outcome). judges p name g (Sync limit) kept number (rows p name g o.journal ++ map ended_line (tail_of o))) left
       ∙ stand_all (tail_of run) number
   behind_right graph (Serial fuel) number outcome left =
-      ap (λ (o : Outcome). judges p name g (Serial fuel) number (rows p name g o.journal ++ map ended_line (tail_of o))) left.outcome_is
+      ap (λ (o : Outcome). judges p name g (Serial fuel) kept number (rows p name g o.journal ++ map ended_line (tail_of o))) left.outcome_is
       ∙ replayed_right graph fuel number left.journal left.legal left.fits
   behind_right graph (Virtual fuel seed) number outcome left =
-      ap (λ (o : Outcome). judges p name g (Virtual fuel seed) number (rows p name g o.journal ++ map ended_line (tail_of o))) left.outcome_is
+      ap (λ (o : Outcome). judges p name g (Virtual fuel seed) kept number (rows p name g o.journal ++ map ended_line (tail_of o))) left.outcome_is
       ∙ replayed_right graph fuel number left.journal left.legal left.fits
 
-  lines_right : (graph : IsMultigraph g) (engine : Engine) (outcome : Outcome) → IsOutcome p g engine outcome
-      → verdict_by p name g engine (map ended_line (report_lines name engine g outcome)) ≡ Confirmed
+  lines_right : (graph : IsMultigraph g) (engine : Engine) (outcome : Outcome) → IsOutcome p g engine kept outcome
+      → verdict_by p name g engine kept (map ended_line (report_lines name engine g outcome)) ≡ Confirmed
   lines_right graph engine outcome left =
       let head = head_lines (engine_name engine) name g in
       let behind = rows p name g outcome.journal ++ map ended_line (tail_of outcome) in
-      ap (expects head (judges p name g engine) 1) (parts engine outcome)
-      ∙ (stand head (judges p name g engine) 1 behind ∙ behind_right graph engine (1 + length head) outcome left)
+      ap (expects head (judges p name g engine kept) 1) (parts engine outcome)
+      ∙ (stand head (judges p name g engine kept) 1 behind ∙ behind_right graph engine (1 + length head) outcome left)
 
   -- what was confirmed behind the counts
   pub record Left (engine : Engine) (lines : List ReadLine) : Type 0 where
     pub outcome : Outcome
-    pub left : IsOutcome p g engine outcome
+    pub left : IsOutcome p g engine kept outcome
     pub lines_are : lines ≡ rows p name g outcome.journal ++ map ended_line (tail_of outcome)
 
   tail_alone : (expected : List ReportLine) (number : ℕ) (lines : List ReadLine) → expects expected ends number lines ≡ Confirmed → lines ≡ map ended_line expected
@@ -160,10 +159,10 @@ module _ {Acc Carry : Type 0} (p : Program Acc Carry) (name : ProgramName) (g : 
       ∙ append-nil (map ended_line expected))
 
   -- of executions, a legal journal that fits the fuel
-  replayed_left : (fuel number : ℕ) (lines : List ReadLine) → judges p name g (Serial fuel) number lines ≡ Confirmed → Left (Serial fuel) lines
+  replayed_left : (fuel number : ℕ) (lines : List ReadLine) → judges p name g (Serial fuel) kept number lines ≡ Confirmed → Left (Serial fuel) lines
   replayed_left fuel number lines confirmed =
       let journal = journal_in p name g start fuel lines in
-      let outcome = after_journal p g journal in
+      let outcome = left_by p g (Serial fuel) kept journal in
       let all = takes p name g start fuel lines in
       let is = passed (is_quiet g outcome.state || (length journal == fuel)) (number + length journal)
       (expects (tail_of outcome) ends (number + length journal) (drop (length journal) lines)) confirmed in
@@ -184,19 +183,24 @@ module _ {Acc Carry : Type 0} (p : Program Acc Carry) (name : ProgramName) (g : 
       over (inl quiet) = inl quiet
       over (inr full) = inr (eqb-true (length (journal_in p name g start fuel lines)) fuel full)
 
-  behind_left : (engine : Engine) (number : ℕ) (lines : List ReadLine) → judges p name g engine number lines ≡ Confirmed → Left engine lines
+  behind_left : (engine : Engine) (number : ℕ) (lines : List ReadLine) → judges p name g engine kept number lines ≡ Confirmed → Left engine lines
   behind_left (Sync limit) number lines confirmed =
-      let run = after_rounds g (rounds p g start limit) in
+      let run = left_by p g (Sync limit) kept [] in
       record { outcome = run; left = refl; lines_are = tail_alone (tail_of run) number lines confirmed }
   behind_left (Serial fuel) number lines confirmed = replayed_left fuel number lines confirmed
   behind_left (Virtual fuel seed) number lines confirmed =
       let replayed = replayed_left fuel number lines confirmed in
-      record { outcome = replayed.outcome; left = replayed.left; lines_are = replayed.lines_are }
+      let left = replayed.left in
+      record {
+        outcome = replayed.outcome;
+        left = record { journal = left.journal; legal = left.legal; fits = left.fits; outcome_is = left.outcome_is };
+        lines_are = replayed.lines_are;
+      }
 
-  text_left : (engine : Engine) (text : List ℕ) → verdict_by p name g engine (map read_line (lines text)) ≡ Confirmed → IsRightText p name g engine text
+  text_left : (engine : Engine) (text : List ℕ) → verdict_by p name g engine kept (map read_line (lines text)) ≡ Confirmed → IsRightText p name g engine kept text
   text_left engine text confirmed =
       let head = head_lines (engine_name engine) name g in
-      let front = stood head (judges p name g engine) 1 (map read_line (lines text)) confirmed in
+      let front = stood head (judges p name g engine kept) 1 (map read_line (lines text)) confirmed in
       let behind = behind_left engine (1 + length head) front.rest front.confirmed in
       let all = report_lines name engine g behind.outcome in
       let read_are : map read_line (lines text) ≡ map ended_line all =
@@ -208,10 +212,10 @@ module _ {Acc Carry : Type 0} (p : Program Acc Carry) (name : ProgramName) (g : 
       }
 
 pub confirms_right : {Acc Carry : Type 0} (p : Program Acc Carry) → ConfirmsRight p
-confirms_right p name engine g outcome graph left fit =
+confirms_right p name engine kept g outcome graph left fit =
     let all = report_lines name engine g outcome in
-    ap (λ (text : List ℕ). verdict_by p name g engine (map read_line (lines text))) (sym (text_is_lines name engine g outcome))
-    ∙ (ap (verdict_by p name g engine) (cut_again all fit) ∙ lines_right p name g graph engine outcome left)
+    ap (λ (text : List ℕ). verdict_by p name g engine kept (map read_line (lines text))) (sym (text_is_lines name engine g outcome))
+    ∙ (ap (verdict_by p name g engine kept) (cut_again all fit) ∙ lines_right p name g kept graph engine outcome left)
 
 pub confirmed_is_right : {Acc Carry : Type 0} (p : Program Acc Carry) → ConfirmedIsRight p
-confirmed_is_right p name engine g text confirmed = text_left p name g engine text confirmed
+confirmed_is_right p name engine kept g text confirmed = text_left p name g kept engine text confirmed

@@ -1,7 +1,8 @@
 -- What a check still expects of a report whose first lines it has read.
-use Rattle.std.specs.Prelude.{◌≡◌, ℕ, ◌+◌, ◌-◌, ◌*◌, ◌^◌, ◌<◌, ◌≤◌, ◌==◌, ◌||◌, Bool, false, List, [], ◌∷◌, ◌++◌, length, drop, Option, Some, None, IsSome, slice_index, if◌then◌else◌}
+use Rattle.std.specs.Prelude.{◌≡◌, ℕ, ◌+◌, ◌-◌, ◌*◌, ◌^◌, ◌<◌, ◌≤◌, ◌==◌, ◌||◌, Bool, true, false, cond, List, [], ◌∷◌, ◌++◌, length, drop, filter, sum_by, Option, Some, None, IsSome, slice_index, slice_index_or, if◌then◌else◌}
 use Rattle.std.specs.List.{flat_map}
 use Rattle.pg_graph.specs.Multigraph.{Multigraph, vertices}
+use Rattle.pg_law.specs.declared.values.JournalEntry.{JournalEntry}
 use Rattle.pg_law.specs.Configuration.{Configuration, message_in, is_quiet, IsFit}
 use Rattle.pg_law.specs.Journal.{replay}
 use Rattle.pg_law.specs.Program.{Program}
@@ -11,6 +12,7 @@ use Rattle.pg_report.specs.Report.{counts_line}
 use Rattle.pg_report.specs.declared.line.LastLine.{LastLine}
 use Rattle.pg_report.specs.declared.line.ReportLine.{ReportLine}
 use Rattle.pg_report.specs.declared.line.ReportLine.TheVariants as line
+use Rattle.pg_serial.specs.Distinct.{has_entry}
 use Rattle.pg_serial.specs.Journals.{gathers_over, gather_degree}
 use Rattle.pg_serial.specs.Serial.{entry_of}
 use Rattle.pg_words.specs.Programs.{is_wide}
@@ -34,9 +36,6 @@ use Rattle.pg_check.specs.declared.verdict.Verdict.TheVariants.{Confirmed, Rejec
 abbrev pub last_of : Multigraph → Configuration → ℕ → ℕ → LastLine
 last_of g s executions gathers =
     record { end = end_of g s; rounds = None; executions = executions; gathers = gathers }
-
-abbrev pub last_with : Multigraph → Configuration → Tally → LastLine
-last_with g s tally = last_of g s tally.executions tally.gathers
 
 -- the signals from a vertex on, and the last line
 abbrev pub signals_from : Multigraph → Configuration → LastLine → ℕ → List ReportLine
@@ -87,9 +86,14 @@ with_entry tally gathers = record {
   gathers = tally.gathers + gathers;
 }
 
--- a course at a place behind the journal
-abbrev pub tail_from : Course → TailPlace → Course
-tail_from c at = record { place = Tail at; state = c.state; last = c.last }
+-- a course at another place
+abbrev pub at_place : Course → Place → Course
+at_place c place = record c { place = place }
+
+-- what is noted, where each vertex counts once, behind an execution: its vertex besides
+abbrev pub AreNoted : Multigraph → Bool → List Bool → List Bool → ℕ → Type 0
+AreNoted g kept old new u = kept ≡ true → (v : ℕ) → v < length g.ids
+    → slice_index_or new v false ≡ (slice_index_or old v false || (u == v))
 
 -- a line, where there is one, and those behind it
 abbrev pub with_line : Option ReadLine → List ReadLine → List ReadLine
@@ -101,35 +105,44 @@ abbrev pub stands : List ℕ → Option ReadLine → Bool
 stands text None = false
 stands text (Some line) = has_text text line
 
+module _ {Acc Carry : Type 0} (p : Program Acc Carry) (g : Multigraph) where
+  -- how many gathers are told, where these vertices were noted and so many gathers were made, and these
+  -- entries follow: where gathers are kept, those of the distinct vertices
+  abbrev pub told_gathers : Bool → List Bool → ℕ → List JournalEntry → ℕ
+  told_gathers kept noted gathers more = cond kept
+      (sum_by (gather_degree p g)
+      (filter (λ v. slice_index_or noted v false || has_entry more v) (vertices g)))
+      (gathers + gathers_over p g more)
+
 module _ {Acc Carry : Type 0} (p : Program Acc Carry) (name : ProgramName) (g : Multigraph) where
   -- the rest of a journal from a state on, with so much fuel left, and the rest of the report, which
   -- tells these executions and gathers besides
-  abbrev pub replays_from : Configuration → Tally → Judge
-  replays_from s tally number lines =
+  abbrev pub replays_from : Bool → List Bool → Configuration → Tally → Judge
+  replays_from kept noted s tally number lines =
       let more = journal_in p name g s tally.left lines in
       let now = replay p g s more in
       if is_quiet g now || (length more == tally.left)
       then expects
       (tail_lines name g now
       (last_of g now (tally.executions + length more)
-      (tally.gathers + gathers_over p g more)))
+      (told_gathers p g kept noted tally.gathers more)))
       ends (number + length more) (drop (length more) lines)
       else Rejected (number + length more)
 
-  abbrev pub behind_counts : Engine → Course → Judge
-  behind_counts (Sync limit) c = expects (tail_lines name g c.state c.last) ends
-  behind_counts (Serial fuel) c = replays_from c.state (full fuel)
-  behind_counts (Virtual fuel seed) c = replays_from c.state (full fuel)
+  abbrev pub behind_counts : Engine → Bool → Course → Judge
+  behind_counts (Sync limit) kept c = expects (tail_lines name g c.state c.last) ends
+  behind_counts (Serial fuel) kept c = replays_from kept c.noted.items c.state (full fuel)
+  behind_counts (Virtual fuel seed) kept c = replays_from kept c.noted.items c.state (full fuel)
 
-  -- what is expected from a place on
-  abbrev pub expects_from : Engine → Course → Place → Judge
-  expects_from engine c Counts = expects (counts_line g ∷ []) (behind_counts engine c)
-  expects_from engine c (Journal tally) = replays_from c.state tally
-  expects_from engine c (Tail at) = expects (lines_from name g c.state c.last at) ends
+  -- what is expected from a place on, where gathers are kept or not
+  abbrev pub expects_from : Engine → Bool → Course → Place → Judge
+  expects_from engine kept c Counts = expects (counts_line g ∷ []) (behind_counts engine kept c)
+  expects_from engine kept c (Journal tally) = replays_from kept c.noted.items c.state tally
+  expects_from engine kept c (Tail at) = expects (lines_from name g c.state c.last at) ends
 
   -- how many edges the run gathers over, by the lines from a place on
   abbrev pub gathers_behind : Engine → Course → List ReadLine → ℕ
-  gathers_behind (Sync limit) c lines = c.last.gathers
+  gathers_behind (Sync limit) c lines = c.made
   gathers_behind (Serial fuel) c lines = gathers_over p g (journal_in p name g c.state fuel lines)
   gathers_behind (Virtual fuel seed) c lines =
       gathers_over p g (journal_in p name g c.state fuel lines)
@@ -138,21 +151,21 @@ module _ {Acc Carry : Type 0} (p : Program Acc Carry) (name : ProgramName) (g : 
   gathers_from engine c Counts lines = gathers_behind engine c (drop 1 lines)
   gathers_from engine c (Journal tally) lines =
       tally.gathers + gathers_over p g (journal_in p name g c.state tally.left lines)
-  gathers_from engine c (Tail at) lines = c.last.gathers
+  gathers_from engine c (Tail at) lines = c.made
 
   -- and how many were made
   abbrev pub gathers_made : Engine → Course → Place → ℕ
-  gathers_made (Sync limit) c Counts = c.last.gathers
+  gathers_made (Sync limit) c Counts = c.made
   gathers_made (Serial fuel) c Counts = 0
   gathers_made (Virtual fuel seed) c Counts = 0
   gathers_made engine c (Journal tally) = tally.gathers
-  gathers_made engine c (Tail at) = c.last.gathers
+  gathers_made engine c (Tail at) = c.made
 
   -- what a line is, where so much fuel is left: the entry of an execution; an entry that isn't that of
   -- its execution, although there is one; or another line, or none
-  pub record IsEntry (old new : Configuration) (left : ℕ) (line : Option ReadLine) (gathers : ℕ)
-      : Type 0 where
-    pub vertex : ℕ
+  pub record IsEntry (old new : Configuration) (left : ℕ) (line : Option ReadLine)
+      (vertex gathers : ℕ) : Type 0 where
+    pub within : vertex < length g.ids
     pub some : 0 < left
     pub there : IsSome line
     pub executed : new ≡ execution p g old vertex
@@ -170,26 +183,27 @@ module _ {Acc Carry : Type 0} (p : Program Acc Carry) (name : ProgramName) (g : 
     pub signalled : is_quiet g old ≡ false
 
   abbrev pub IsFound : Configuration → Configuration → ℕ → ℕ → ℕ → Option ReadLine → Found → Type 0
-  IsFound old new steps_old steps_new left line (Entry gathers) =
-      IsEntry old new left line gathers × (steps_new ≡ steps_old + gathers)
+  IsFound old new steps_old steps_new left line (Entry vertex gathers) =
+      IsEntry old new left line vertex gathers × (steps_new ≡ steps_old + gathers)
   IsFound old new steps_old steps_new left line WrongEntry =
       IsWrongEntry old left line × (steps_old ≤ steps_new)
   IsFound old new steps_old steps_new left line Other =
       IsNoEntry old left line × (new ≡ old) × (steps_new ≡ steps_old)
 
-  -- a course whose numbers are in their ranges
-  pub record IsCourse (c : Course) : Type 0 where
+  -- a course whose numbers are in their ranges; where gathers are kept, each vertex has a mark
+  pub record IsCourse (kept : Bool) (c : Course) : Type 0 where
     pub fit : IsFit p g c.state
     pub place : IsPlace g c.place
+    pub marks : kept ≡ true → length c.noted.items ≡ length g.ids
 
   -- a line was taken, and the course goes on behind it
-  pub record GoesOn (engine : Engine) (old new : Course) (steps_old steps_new : ℕ)
+  pub record GoesOn (engine : Engine) (kept : Bool) (old new : Course) (steps_old steps_new : ℕ)
       (line : Option ReadLine) (number : ℕ) : Type 0 where
     pub there : IsSome line
-    pub course : IsCourse new
+    pub course : IsCourse kept new
     pub verdict : (lines : List ReadLine)
-        → expects_from engine old old.place number (with_line line lines)
-        ≡ expects_from engine new new.place (number + 1) lines
+        → expects_from engine kept old old.place number (with_line line lines)
+        ≡ expects_from engine kept new new.place (number + 1) lines
     pub gathers : (lines : List ReadLine)
         → gathers_from engine old old.place (with_line line lines)
         ≡ gathers_from engine new new.place lines
@@ -197,27 +211,27 @@ module _ {Acc Carry : Type 0} (p : Program Acc Carry) (name : ProgramName) (g : 
         ≡ steps_old + gathers_made engine new new.place
 
   -- the report ends, and is right
-  pub record IsConfirmed (engine : Engine) (old : Course) (steps_old steps_new : ℕ)
+  pub record IsConfirmed (engine : Engine) (kept : Bool) (old : Course) (steps_old steps_new : ℕ)
       (line : Option ReadLine) (number : ℕ) : Type 0 where
     pub none : line ≡ None
-    pub verdict : expects_from engine old old.place number [] ≡ Confirmed
+    pub verdict : expects_from engine kept old old.place number [] ≡ Confirmed
     pub gathers : gathers_from engine old old.place [] ≡ gathers_made engine old old.place
     pub steps : steps_new ≡ steps_old
 
   -- the line is wrong, or missing
-  pub record IsRejected (engine : Engine) (old : Course) (steps_old steps_new : ℕ)
+  pub record IsRejected (engine : Engine) (kept : Bool) (old : Course) (steps_old steps_new : ℕ)
       (line : Option ReadLine) (number rejected : ℕ) : Type 0 where
     pub steps : steps_old ≤ steps_new
     pub here : rejected ≡ number
     pub verdict : (lines : List ReadLine)
-        → expects_from engine old old.place number (with_line line lines) ≡ Rejected number
+        → expects_from engine kept old old.place number (with_line line lines) ≡ Rejected number
 
   -- what a course makes of the line with this number, or of the end of the report there
-  abbrev pub IsTaken : Engine → Course → Course → ℕ → ℕ → Option ReadLine → ℕ → Option Verdict
-      → Type 0
-  IsTaken engine old new steps_old steps_new line number None =
-      GoesOn engine old new steps_old steps_new line number
-  IsTaken engine old new steps_old steps_new line number (Some Confirmed) =
-      IsConfirmed engine old steps_old steps_new line number
-  IsTaken engine old new steps_old steps_new line number (Some (Rejected rejected)) =
-      IsRejected engine old steps_old steps_new line number rejected
+  abbrev pub IsTaken : Engine → Bool → Course → Course → ℕ → ℕ → Option ReadLine → ℕ
+      → Option Verdict → Type 0
+  IsTaken engine kept old new steps_old steps_new line number None =
+      GoesOn engine kept old new steps_old steps_new line number
+  IsTaken engine kept old new steps_old steps_new line number (Some Confirmed) =
+      IsConfirmed engine kept old steps_old steps_new line number
+  IsTaken engine kept old new steps_old steps_new line number (Some (Rejected rejected)) =
+      IsRejected engine kept old steps_old steps_new line number rejected

@@ -1,6 +1,6 @@
 -- Whether a report is right for its job, or its first line that is wrong. Lines are numbered from the
 -- header, which is line 1.
-use Rattle.std.specs.Prelude.{ℕ, zero, suc, ◌+◌, ◌-◌, ◌==◌, ◌||◌, nat_lt, List, [], ◌∷◌, length, take, drop, Option, Some, None, if◌then◌else◌}
+use Rattle.std.specs.Prelude.{ℕ, zero, suc, ◌+◌, ◌-◌, ◌==◌, Bool, ◌||◌, ◌&&◌, nat_lt, List, [], ◌∷◌, length, take, drop, Option, Some, None, if◌then◌else◌}
 use Rattle.std.specs.List.{find}
 use Rattle.pg_graph.specs.Multigraph.{Multigraph}
 use Rattle.pg_input.specs.Texts.{TextLine, lines, width}
@@ -21,13 +21,13 @@ use Rattle.pg_report.specs.Lines.{line_text}
 use Rattle.pg_report.specs.declared.line.ReportLine.{ReportLine}
 use Rattle.pg_serial.specs.Journals.{gathers_over}
 use Rattle.pg_serial.specs.Serial.{entry_of, entries_from}
-use Rattle.pg_words.specs.Programs.{is_wide}
+use Rattle.pg_words.specs.Programs.{is_wide, keeps}
 use Rattle.pg_words.specs.declared.job.Engine.{Engine}
 use Rattle.pg_words.specs.declared.job.Engine.TheVariants.{Sync, Serial, Virtual}
 use Rattle.pg_words.specs.declared.job.ProgramName.{ProgramName}
 use Rattle.pg_words.specs.declared.job.ProgramName.TheVariants.{Components, Colour, Sssp, Rank, Tree}
 use Rattle.pg_words.specs.declared.job.RunJob.{RunJob}
-use Rattle.pg_check.specs.Outcomes.{Outcome, after_rounds, after_journal, engine_name}
+use Rattle.pg_check.specs.Outcomes.{Outcome, left_by, engine_name}
 use Rattle.pg_check.specs.Reports.{ReadLine, has_text, entry_row, head_lines, tail_lines}
 use Rattle.pg_check.specs.declared.verdict.Verdict.{Verdict}
 use Rattle.pg_check.specs.declared.verdict.Verdict.TheVariants.{Confirmed, Rejected}
@@ -74,27 +74,27 @@ module _ {Acc Carry : Type 0} (p : Program Acc Carry) (name : ProgramName) (g : 
 
   -- the lines of a journal, and those behind it; a line that begins as an entry and is none of the
   -- journal's is no line of the rest either
-  abbrev pub replays : ℕ → Judge
-  replays fuel number lines =
+  abbrev pub replays : Engine → ℕ → Bool → Judge
+  replays engine fuel kept number lines =
       let journal = journal_in (start_state p g) fuel lines in
-      completes fuel (after_journal p g journal) (number + length journal)
+      completes fuel (left_by p g engine kept journal) (number + length journal)
       (drop (length journal) lines)
 
-  -- what is expected behind the counts: of rounds the one right text, of executions that of a legal
-  -- journal that fits the fuel
-  abbrev pub judges : Engine → Judge
-  judges (Sync limit) =
-      let outcome = after_rounds g (rounds p g (start_state p g) limit) in
+  -- what is expected behind the counts, where gathers are kept or not: of rounds the one right text, of
+  -- executions that of a legal journal that fits the fuel
+  abbrev pub judges : Engine → Bool → Judge
+  judges (Sync limit) kept =
+      let outcome = left_by p g (Sync limit) kept [] in
       expects (tail_lines name g outcome.state outcome.last) ends
-  judges (Serial fuel) = replays fuel
-  judges (Virtual fuel seed) = replays fuel
+  judges (Serial fuel) kept = replays (Serial fuel) fuel kept
+  judges (Virtual fuel seed) kept = replays (Virtual fuel seed) fuel kept
 
   -- what a check finds of a report
-  abbrev pub verdict_by : Engine → List ReadLine → Verdict
-  verdict_by engine lines =
-      expects (head_lines (engine_name engine) name g) (judges engine) 1 lines
+  abbrev pub verdict_by : Engine → Bool → List ReadLine → Verdict
+  verdict_by engine kept lines =
+      expects (head_lines (engine_name engine) name g) (judges engine kept) 1 lines
 
-  -- how many edges the run gathers over whose report this is
+  -- how many edges the run gathers over whose report this is, each execution anew
   abbrev pub gathers_by : Engine → List ReadLine → ℕ
   gathers_by (Sync limit) lines = (rounds p g (start_state p g) limit).gathers
   gathers_by (Serial fuel) lines =
@@ -103,12 +103,14 @@ module _ {Acc Carry : Type 0} (p : Program Acc Carry) (name : ProgramName) (g : 
       gathers_over p g (journal_in (start_state p g) fuel (drop 2 lines))
 
 -- the same of the program with this name
-abbrev pub verdict_of : ProgramName → Engine → Multigraph → List ReadLine → Verdict
-verdict_of Components engine g = verdict_by components Components g engine
-verdict_of Colour engine g = verdict_by colouring Colour g engine
-verdict_of (Sssp source) engine g = verdict_by (shortest_paths source) (Sssp source) g engine
-verdict_of (Rank tolerance) engine g = verdict_by (page_rank tolerance) (Rank tolerance) g engine
-verdict_of (Tree source) engine g = verdict_by (tree source) (Tree source) g engine
+abbrev pub verdict_of : ProgramName → Engine → Bool → Multigraph → List ReadLine → Verdict
+verdict_of Components engine kept g = verdict_by components Components g engine kept
+verdict_of Colour engine kept g = verdict_by colouring Colour g engine kept
+verdict_of (Sssp source) engine kept g =
+    verdict_by (shortest_paths source) (Sssp source) g engine kept
+verdict_of (Rank tolerance) engine kept g =
+    verdict_by (page_rank tolerance) (Rank tolerance) g engine kept
+verdict_of (Tree source) engine kept g = verdict_by (tree source) (Tree source) g engine kept
 
 abbrev pub gathers_of : ProgramName → Engine → Multigraph → List ReadLine → ℕ
 gathers_of Components engine g = gathers_by components Components g engine
@@ -117,9 +119,14 @@ gathers_of (Sssp source) engine g = gathers_by (shortest_paths source) (Sssp sou
 gathers_of (Rank tolerance) engine g = gathers_by (page_rank tolerance) (Rank tolerance) g engine
 gathers_of (Tree source) engine g = gathers_by (tree source) (Tree source) g engine
 
+-- whether the report of a job is of a run that keeps gathers: the job says so, of a program whose scatters
+-- tell how a gather changes
+abbrev pub counts_once : RunJob → Bool
+counts_once job = keeps job.program && job.cache
+
 -- and of a job
 abbrev pub job_verdict : RunJob → Multigraph → List ReadLine → Verdict
-job_verdict job g lines = verdict_of job.program job.engine g lines
+job_verdict job g lines = verdict_of job.program job.engine (counts_once job) g lines
 
 -- the lines behind the header that are read for a verdict: all, or those up to the rejected one
 abbrev pub lines_for : Verdict → List TextLine → List TextLine

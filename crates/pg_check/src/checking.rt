@@ -9,11 +9,12 @@ ghost use Rattle.pg_report.specs.Lines.{line_text};
 ghost use Rattle.pg_report.specs.declared.line.ReportLine.TheVariants.{Head};
 ghost use Rattle.pg_check.specs.Outcomes.{engine_name};
 ghost use Rattle.pg_check.specs.Reports.{has_text, read_report};
-ghost use Rattle.pg_check.specs.Verdicts.{verdict_by, gathers_by, event_for};
+ghost use Rattle.pg_check.specs.Verdicts.{verdict_by, gathers_by, counts_once, event_for};
 ghost use Rattle.pg_check.specs.declared.verdict.Verdict.TheVariants.{Confirmed};
 
+use crate::begin::begin;
 use crate::compare::is_line;
-use crate::course::{begin, take};
+use crate::course::take;
 use crate::verdict::Verdict;
 use pg_base::{Limits, LineCutter, RawLine, Source};
 use pg_graph::Graph;
@@ -40,7 +41,8 @@ fn is_head(line: RawLine<'_>, job: &RunJob) -> bool
 
 /// Reads a report behind its header and says whether it is right for the job on the graph, or its
 /// first wrong line. A report of rounds is compared with the one right text; one of executions is
-/// replayed, and the job's fuel alone counts.
+/// replayed, and the job's fuel alone counts. Where the job keeps gathers, the last line has to count
+/// each vertex once.
 ///
 /// `first` is the header that was found before, with its line feed or not; None where the text had
 /// none, and then line 1 is wrong. Lines are numbered from the header, bytes from the first that the
@@ -64,10 +66,11 @@ pub fn check<P: VertexProgram, S: Source, L: Ledger>(
     // The verdict is that of the report, whose lines up to the wrong one are within the limit.
     ensures verdict { IfOk result (λ verdict. IfSome (ahead cutter.old (S.left source.old)) (λ text.
         verdict ≡ verdict_by (P.meaning program.now) job.now.program graph.now job.now.engine
-        (read_report (shown first.entry) text))) }
+        (counts_once job.now) (read_report (shown first.entry) text))) }
     ensures accepted { IfOk result (λ verdict. IfSome (ahead cutter.old (S.left source.old))
         (λ text. event_for limits.bytes cutter.old.given verdict text ≡ None)) }
-    // A confirmed report was read to its end, and its run gathered so often.
+    // A confirmed report was read to its end, and its run gathered so often: also where the report
+    // counts each vertex once, each execution gathers anew.
     ensures end { IfOk result (λ verdict. verdict ≡ Confirmed →
         IfSome (ahead cutter.old (S.left source.old)) (λ _. S.left source.new ≡ Some [])) }
     ensures gathered { IfOk result (λ verdict. verdict ≡ Confirmed →
@@ -78,7 +81,7 @@ pub fn check<P: VertexProgram, S: Source, L: Ledger>(
     ensures event { IfErr result (λ e. IfSome (ahead cutter.old (S.left source.old)) (λ text.
         IsEventOf (event_for limits.bytes cutter.old.given
         (verdict_by (P.meaning program.now) job.now.program graph.now job.now.engine
-        (read_report (shown first.entry) text)) text) e)) }
+        (counts_once job.now) (read_report (shown first.entry) text)) text) e)) }
     ensures fault { IsErrOf result InputError.ReadFault
         → HasRisen (S.faults source.old) (S.faults source.new) }
     ensures counted { S.faults source.old ≤ S.faults source.new }

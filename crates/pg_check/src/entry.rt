@@ -21,8 +21,8 @@ use std::sync::ledger::Ledger;
 /// What a line is in a journal.
 #[derive(Clone, Copy, Debug, PartialEq, Eq)]
 pub enum Found {
-    /// The entry of an execution, which gathered so often.
-    Entry { gathers: u64 },
+    /// The entry of an execution of this vertex, which gathered so often.
+    Entry { vertex: u32, gathers: u64 },
     /// An entry of a signalled vertex, but not that of its execution.
     WrongEntry,
     /// No entry of a signalled vertex.
@@ -82,7 +82,7 @@ fn execute_line<P: VertexProgram, L: Ledger>(
     let gathers = execute_signalled(alloc, program, graph, state, u, message, sents, steps)?;
     let datum = state.values[u as usize];
     if is_line(line, entry_line(name.wide(), graph, u, datum)) {
-        Ok(Found::Entry { gathers })
+        Ok(Found::Entry { vertex: u, gathers })
     } else {
         Ok(Found::WrongEntry)
     }

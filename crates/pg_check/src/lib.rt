@@ -1,6 +1,7 @@
 //! Whether a report that follows a graph text is right.
 #![tactic(auto)]
 
+mod begin;
 mod checking;
 mod compare;
 mod course;
@@ -8,6 +9,7 @@ mod entry;
 pub mod laws;
 mod place;
 mod tail;
+mod told;
 mod verdict;
 
 pub use checking::check;

@@ -12,7 +12,7 @@ use Rattle.pg_input.specs.declared.error.Which.TheVariants.{Bytes}
 use Rattle.pg_input.proofs.TextLemmas.{BothTold, told, told_later, told_behind, told_at_start, none_told, cut_told}
 use Rattle.pg_check.specs.Course.{gathers_made}
 use Rattle.pg_check.specs.Reports.{ReadLine, read_report}
-use Rattle.pg_check.specs.Verdicts.{verdict_by, gathers_by, event_for}
+use Rattle.pg_check.specs.Verdicts.{verdict_by, gathers_by, counts_once, event_for}
 use Rattle.pg_check.specs.declared.verdict.Verdict.TheVariants.{Confirmed}
 use Rattle.pg_check.proofs.Reading.{IsRest, IsDone, begun, over, done, over_with, goes_on_with, both_some, nothing_left, steps_later, steps_same}
 use Rattle.pg_check.proofs.checking.check.Given
@@ -29,11 +29,12 @@ loop-line-init g c =
     let p = g.P.VertexProgram.meaning c.args.program.now in
     let name = c.args.job.now.program in
     let engine = c.args.job.now.engine in
+    let kept = counts_once c.args.job.now in
     let header : ReadLine = (c.in-Some.header.bytes.now, c.in-Some.header.ended) in
     let made = c.in_ok-course.ensures.made in
     record {
-      rest = told_at_start (IsRest p name c.args.graph.now engine c.args.limits.bytes c.args.cutter.now.given (shown c.args.first) c.in_ok-course.course 1 c.args.cutter.now.given)
-          (λ text. begun p name c.args.graph.now engine c.args.limits.bytes c.args.cutter.now.given (shown c.args.first) c.in_ok-course.course header text
+      rest = told_at_start (IsRest p name c.args.graph.now engine kept c.args.limits.bytes c.args.cutter.now.given (shown c.args.first) c.in_ok-course.course 1 c.args.cutter.now.given)
+          (λ text. begun p name c.args.graph.now engine kept c.args.limits.bytes c.args.cutter.now.given (shown c.args.first) c.in_ok-course.course header text
           (ap shown c.in-Some.is) (sym c.is_head.ensures ∙ c.if-not-is_head.false) c.in_ok-course.ensures.place c.in_ok-course.ensures.judge c.in_ok-course.ensures.gathers)
           (ahead c.args.cutter.now (g.S.Source.left c.args.source.now));
       course = c.in_ok-course.ensures.course;
@@ -50,40 +51,42 @@ returns-in-Err-clause-event g c =
     let p = g.P.VertexProgram.meaning c.args.program.now in
     let name = c.args.job.now.program in
     let engine = c.args.job.now.engine in
+    let kept = counts_once c.args.job.now in
     let limit = c.args.limits.bytes in
     let start = c.args.cutter.now.given in
     let first = shown c.args.first in
     let cutter = c.loop-line.cutter in
     let left = ahead c.args.cutter.now (g.S.Source.left c.args.source.now) in
     let text_ahead = ahead cutter (g.S.Source.left c.loop-line.source) in
-    let R = IsRest p name c.args.graph.now engine limit start first c.loop-line.course c.loop-line.number cutter.given in
-    rw c.from_cut.ensures (cut_told c.in-Err.refusal left (λ text. event_for limit start (verdict_by p name c.args.graph.now engine (read_report first text)) text) limit
+    let R = IsRest p name c.args.graph.now engine kept limit start first c.loop-line.course c.loop-line.number cutter.given in
+    rw c.from_cut.ensures (cut_told c.in-Err.refusal left (λ text. event_for limit start (verdict_by p name c.args.graph.now engine kept (read_report first text)) text) limit
     (λ is. told R (λ rest. (0 < length rest) × (limit < cutter.given + first_width rest))
-    (λ text. event_for limit start (verdict_by p name c.args.graph.now engine (read_report first text)) text ≡ Some (Limit Bytes limit)) left text_ahead c.loop-line.invariant.rest
+    (λ text. event_for limit start (verdict_by p name c.args.graph.now engine kept (read_report first text)) text ≡ Some (Limit Bytes limit)) left text_ahead c.loop-line.invariant.rest
     (both_some (λ rest. 0 < length rest) (λ rest. limit < cutter.given + first_width rest) text_ahead
     (none_told _ cutter.refusal c.loop-line.invariant.refusal c.in-Err.ensures.over_some is)
     (none_told _ cutter.refusal c.loop-line.invariant.refusal c.in-Err.ensures.over is))
-    (λ text rest so_far far. over p name c.args.graph.now engine limit start first c.loop-line.course c.loop-line.number cutter.given text rest so_far far.0 far.1)))
+    (λ text rest so_far far. over p name c.args.graph.now engine kept limit start first c.loop-line.course c.loop-line.number cutter.given text rest so_far far.0 far.1)))
 
 -- what is answered of the text
-abbrev Done : (g : Given.Over) → goal.After-drop-course-in-Some-2-3 g → List ℕ → Type 0
-Done g c = IsDone (g.P.VertexProgram.meaning c.args.program.now) c.args.job.now.program c.args.graph.now c.args.job.now.engine c.args.limits.bytes c.args.cutter.now.given
+abbrev Done : (g : Given.Over) → goal.After-drop-course-in-Some-2-4 g → List ℕ → Type 0
+Done g c = IsDone (g.P.VertexProgram.meaning c.args.program.now) c.args.job.now.program c.args.graph.now c.args.job.now.engine (counts_once c.args.job.now) c.args.limits.bytes c.args.cutter.now.given
     (shown c.args.first) c.in-Some-2.verdict
 
-answered : (g : Given.Over) (c : goal.After-drop-course-in-Some-2-3 g) → IfSome (ahead c.args.cutter.now (g.S.Source.left c.args.source.now)) (Done g c)
+answered : (g : Given.Over) (c : goal.After-drop-course-in-Some-2-4 g) → IfSome (ahead c.args.cutter.now (g.S.Source.left c.args.source.now)) (Done g c)
 answered g c =
     let p = g.P.VertexProgram.meaning c.args.program.now in
     let name = c.args.job.now.program in
     let engine = c.args.job.now.engine in
+    let kept = counts_once c.args.job.now in
     let limit = c.args.limits.bytes in
     let start = c.args.cutter.now.given in
     let first = shown c.args.first in
     let cutter = c.loop-line.cutter in
     let taken = rw c.in-Some-2.is at c.in_ok-verdict.ensures in
-    told (IsRest p name c.args.graph.now engine limit start first c.loop-line.course c.loop-line.number cutter.given) (λ text. IsFirstLine text (shown c.in-Ok.line))
-    (IsDone p name c.args.graph.now engine limit start first c.in-Some-2.verdict)
+    told (IsRest p name c.args.graph.now engine kept limit start first c.loop-line.course c.loop-line.number cutter.given) (λ text. IsFirstLine text (shown c.in-Ok.line))
+    (IsDone p name c.args.graph.now engine kept limit start first c.in-Some-2.verdict)
     (ahead c.args.cutter.now (g.S.Source.left c.args.source.now)) (ahead cutter (g.S.Source.left c.loop-line.source)) c.loop-line.invariant.rest c.in-Ok.ensures.line
-    (λ text rest so_far cut. done p name c.args.graph.now engine limit start first c.loop-line.course c.loop-line.number cutter.given text rest so_far
+    (λ text rest so_far cut. done p name c.args.graph.now engine kept limit start first c.loop-line.course c.loop-line.number cutter.given text rest so_far
     c.in-Ok.line c.take.new.course c.loop-line.steps c.take.new.steps c.in-Some-2.verdict cut c.in-Ok.ensures.within taken)
 
 pub returns-in-Some-2-clause-verdict : goal.returns-in-Some-2-clause-verdict
@@ -93,13 +96,14 @@ pub returns-in-Some-2-clause-accepted : goal.returns-in-Some-2-clause-accepted
 returns-in-Some-2-clause-accepted g c = IfSome_then _ (answered g c) (λ (text : List ℕ) (d : Done g c text). d.accepted)
 
 -- a confirmed report is over, and its gathers were made
-confirmed_end : (g : Given.Over) (c : goal.After-drop-course-in-Some-2-3 g) → c.in-Some-2.verdict ≡ Confirmed
+confirmed_end : (g : Given.Over) (c : goal.After-drop-course-in-Some-2-4 g) → c.in-Some-2.verdict ≡ Confirmed
     → IfSome (ahead c.args.cutter.now (g.S.Source.left c.args.source.now)) (λ text. g.S.Source.left c.line.new.source ≡ Some [])
 confirmed_end g c confirmed =
     let p = g.P.VertexProgram.meaning c.args.program.now in
     let name = c.args.job.now.program in
     let graph = c.args.graph.now in
     let engine = c.args.job.now.engine in
+    let kept = counts_once c.args.job.now in
     let limit = c.args.limits.bytes in
     let start = c.args.cutter.now.given in
     let first = shown c.args.first in
@@ -107,15 +111,15 @@ confirmed_end g c confirmed =
     let taken = rw c.in-Some-2.is at c.in_ok-verdict.ensures in
     let cut = rw c.in-Ok.is at c.line.follows.holds-at-none in
     let new = ahead c.line.follows.lender-at-none (g.S.Source.left c.line.new.source) in
-    told_behind (IsRest p name graph engine limit start first c.loop-line.course c.loop-line.number cutter.given) (λ text. IsFirstLine text (shown c.in-Ok.line))
+    told_behind (IsRest p name graph engine kept limit start first c.loop-line.course c.loop-line.number cutter.given) (λ text. IsFirstLine text (shown c.in-Ok.line))
     (λ text. g.S.Source.left c.line.new.source ≡ Some [])
     (ahead c.args.cutter.now (g.S.Source.left c.args.source.now)) (ahead cutter (g.S.Source.left c.loop-line.source)) new c.loop-line.invariant.rest c.in-Ok.ensures.line cut.2
     (λ text rest so_far first_line behind.
-    (let is_over = over_with p name graph engine limit start first c.loop-line.course c.loop-line.number cutter.given text rest so_far
+    (let is_over = over_with p name graph engine kept limit start first c.loop-line.course c.loop-line.number cutter.given text rest so_far
     c.in-Ok.line c.take.new.course c.loop-line.steps c.take.new.steps c.in-Some-2.verdict first_line c.in-Ok.ensures.within taken confirmed in
     nothing_left c.line.follows.lender-at-none.held (g.S.Source.left c.line.new.source) (behind ∙ ap (λ (bytes : List ℕ). Some (later_lines bytes)) is_over.0)))
 
-confirmed_steps : (g : Given.Over) (c : goal.After-drop-course-in-Some-2-3 g) → c.in-Some-2.verdict ≡ Confirmed
+confirmed_steps : (g : Given.Over) (c : goal.After-drop-course-in-Some-2-4 g) → c.in-Some-2.verdict ≡ Confirmed
     → IfSome (ahead c.args.cutter.now (g.S.Source.left c.args.source.now))
     (λ text. c.take.new.steps ≡ c.args.steps.now + gathers_by (g.P.VertexProgram.meaning c.args.program.now) c.args.job.now.program c.args.graph.now c.args.job.now.engine (read_report (shown c.args.first) text))
 confirmed_steps g c confirmed =
@@ -123,18 +127,19 @@ confirmed_steps g c confirmed =
     let name = c.args.job.now.program in
     let graph = c.args.graph.now in
     let engine = c.args.job.now.engine in
+    let kept = counts_once c.args.job.now in
     let limit = c.args.limits.bytes in
     let start = c.args.cutter.now.given in
     let first = shown c.args.first in
     let cutter = c.loop-line.cutter in
     let taken = rw c.in-Some-2.is at c.in_ok-verdict.ensures in
-    let same = steps_same p name graph engine c.loop-line.course c.take.new.course
+    let same = steps_same p name graph engine kept c.loop-line.course c.take.new.course
     c.loop-line.steps c.take.new.steps (c.loop-line.number + 1) (shown c.in-Ok.line) c.in-Some-2.verdict taken confirmed in
-    told (IsRest p name graph engine limit start first c.loop-line.course c.loop-line.number cutter.given) (λ text. IsFirstLine text (shown c.in-Ok.line))
+    told (IsRest p name graph engine kept limit start first c.loop-line.course c.loop-line.number cutter.given) (λ text. IsFirstLine text (shown c.in-Ok.line))
     (λ text. c.take.new.steps ≡ c.args.steps.now + gathers_by p name graph engine (read_report first text))
     (ahead c.args.cutter.now (g.S.Source.left c.args.source.now)) (ahead cutter (g.S.Source.left c.loop-line.source)) c.loop-line.invariant.rest c.in-Ok.ensures.line
     (λ text rest so_far first_line.
-    (let is_over = over_with p name graph engine limit start first c.loop-line.course c.loop-line.number cutter.given text rest so_far
+    (let is_over = over_with p name graph engine kept limit start first c.loop-line.course c.loop-line.number cutter.given text rest so_far
     c.in-Ok.line c.take.new.course c.loop-line.steps c.take.new.steps c.in-Some-2.verdict first_line c.in-Ok.ensures.within taken confirmed in
     omega (arith, same, c.loop-line.invariant.steps, is_over.1)))
 
@@ -147,7 +152,7 @@ returns-in-Some-2-clause-gathered g c = confirmed_steps g c
 pub returns-in-Some-2-clause-steps : goal.returns-in-Some-2-clause-steps
 returns-in-Some-2-clause-steps g c =
     let taken = rw c.in-Some-2.is at c.in_ok-verdict.ensures in
-    let later = steps_later (g.P.VertexProgram.meaning c.args.program.now) c.args.job.now.program c.args.graph.now c.args.job.now.engine c.loop-line.course c.take.new.course
+    let later = steps_later (g.P.VertexProgram.meaning c.args.program.now) c.args.job.now.program c.args.graph.now c.args.job.now.engine (counts_once c.args.job.now) c.loop-line.course c.take.new.course
     c.loop-line.steps c.take.new.steps (c.loop-line.number + 1) (shown c.in-Ok.line) c.in-Some-2.verdict taken in
     omega (arith, c.loop-line.invariant.steps, later)
 
@@ -157,6 +162,7 @@ loop-line-preserved g c =
     let name = c.args.job.now.program in
     let graph = c.args.graph.now in
     let engine = c.args.job.now.engine in
+    let kept = counts_once c.args.job.now in
     let limit = c.args.limits.bytes in
     let start = c.args.cutter.now.given in
     let first = shown c.args.first in
@@ -166,12 +172,12 @@ loop-line-preserved g c =
     let new = ahead c.line.follows.lender-at-none (g.S.Source.left c.line.new.source) in
     let left = ahead c.args.cutter.now (g.S.Source.left c.args.source.now) in
     let far = cutter.given + width_given (shown c.in-Ok.line) in
-    let rest = told_later (IsRest p name graph engine limit start first c.loop-line.course c.loop-line.number cutter.given)
-    (IsRest p name graph engine limit start first c.take.new.course (c.loop-line.number + 1) far)
+    let rest = told_later (IsRest p name graph engine kept limit start first c.loop-line.course c.loop-line.number cutter.given)
+    (IsRest p name graph engine kept limit start first c.take.new.course (c.loop-line.number + 1) far)
     (λ text. IsFirstLine text (shown c.in-Ok.line)) left (ahead cutter (g.S.Source.left c.loop-line.source)) new c.loop-line.invariant.rest c.in-Ok.ensures.line cut.2
-    (λ text rest so_far first_line. goes_on_with p name graph engine limit start first c.loop-line.course c.loop-line.number cutter.given text rest so_far
+    (λ text rest so_far first_line. goes_on_with p name graph engine kept limit start first c.loop-line.course c.loop-line.number cutter.given text rest so_far
     c.in-Ok.line c.take.new.course c.loop-line.steps c.take.new.steps first_line c.in-Ok.ensures.within on) in
-    let P : ℕ → Type 0 = λ n. BothTold (IsRest p name graph engine limit start first c.take.new.course (c.loop-line.number + 1) n) left new in
+    let P : ℕ → Type 0 = λ n. BothTold (IsRest p name graph engine kept limit start first c.take.new.course (c.loop-line.number + 1) n) left new in
     let width = width_some c.in-Ok.line cutter.given limit c.in-Ok.ensures.within on.there in
     record {
       rest = subst P (sym cut.1) rest;

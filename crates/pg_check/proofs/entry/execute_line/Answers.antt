@@ -74,7 +74,7 @@ returns-clause-found g c =
           u c.in-Some.is c.in-Some.ensures.within (signalled_is g c) (tested g c ∙ w.if-is_line.true) in
           rw w.result-is (
             an_entry p c.args.name c.args.graph.now s c.execute_signalled.new.state c.args.left u c.in_ok-gathers.gathers (c.args.line.bytes.now, c.args.line.ended)
-                one c.requires.left c.in_ok-gathers.ensures.state c.in_ok-gathers.ensures.gathers c.in_ok-gathers.ensures.few,
+                one c.requires.left c.in-Some.ensures.within c.in_ok-gathers.ensures.state c.in_ok-gathers.ensures.gathers c.in_ok-gathers.ensures.few,
             c.in_ok-gathers.ensures.counted,
           )
       | else-is_line w ↦
