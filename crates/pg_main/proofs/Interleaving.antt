@@ -9,9 +9,8 @@ use Rattle.pg_law.specs.Program.{Program}
 use Rattle.pg_law.specs.Rounds.{end_of}
 use Rattle.pg_virtual.specs.Interleaved.{IsJournal, Ran}
 use Rattle.pg_words.specs.declared.job.Engine.TheVariants.{Virtual}
-use Rattle.pg_check.specs.Outcomes.{outcome_with, HasJournal}
+use Rattle.pg_check.specs.Outcomes.{outcome_with, HasJournal, left_by}
 use Rattle.pg_main.specs.Counters.{counter_at, raised_by, FirstRises}
-use Rattle.pg_main.specs.Ways.{left_by}
 
 module _ {Acc Carry : Type 0} (p : Program Acc Carry) (g : Multigraph) where
   -- a journal of actors is one that a report may have

@@ -8,12 +8,11 @@ use Rattle.pg_law.specs.Configuration.{Configuration, start_state}
 use Rattle.pg_law.specs.Rounds.{rounds, end_of}
 use Rattle.pg_sync.specs.Counting.{gathers_of, gathers_by as gathers_over_cut}
 use Rattle.pg_sync.specs.Kept.{NeverClears, GathersAreDistinct}
-use Rattle.pg_check.specs.Outcomes.{Outcome, outcome_with}
+use Rattle.pg_check.specs.Outcomes.{Outcome, outcome_with, with_kept, distinct_by, left_by}
 use Rattle.pg_words.specs.declared.job.CutKind.{CutKind}
 use Rattle.pg_words.specs.declared.job.Engine.TheVariants.{Sync}
 use Rattle.pg_main.specs.Counters.{FirstTakes, Take}
 use Rattle.pg_main.specs.Cuts.{cut_by, at_first, by_workers, is_alone, gathers_by}
-use Rattle.pg_main.specs.Ways.{with_kept, distinct_by, left_by}
 use Rattle.pg_main.proofs.Taking.{take_by, take_first, cut_workers}
 
 -- where no gathers are kept, a run leaves what it leaves

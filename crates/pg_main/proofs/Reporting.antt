@@ -22,8 +22,7 @@ use Rattle.pg_report.specs.declared.line.LastLine.{LastLine}
 use Rattle.pg_report.specs.Report.{journal_text, head_text, tail_text}
 use Rattle.pg_main.specs.Answers.{Reports, refusal_of}
 use Rattle.pg_main.specs.Counters.{ArePresent, Counted}
-use Rattle.pg_check.specs.Outcomes.{Outcome, outcome_with, text_of, engine_name, journal_of, HasJournal, HasJournalOf}
-use Rattle.pg_main.specs.Ways.{left_of, kept_text}
+use Rattle.pg_check.specs.Outcomes.{Outcome, outcome_with, text_of, engine_name, journal_of, HasJournal, HasJournalOf, left_of, kept_text}
 use Rattle.pg_main.specs.declared.refusal.Refusal.{Refusal}
 use Rattle.pg_main.specs.declared.refusal.Refusal.TheVariants.{WriteFault, Memory}
 use Rattle.pg_report.proofs.Sending.{sent_part, sent_front, sent_rest}

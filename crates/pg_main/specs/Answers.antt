@@ -21,8 +21,7 @@ use Rattle.pg_law.specs.declared.async_end.AsyncError.TheVariants as async
 use Rattle.pg_words.specs.declared.job.Engine.{Engine}
 use Rattle.pg_words.specs.declared.job.ProgramName.{ProgramName}
 use Rattle.pg_main.specs.Counters.{ArePresent, FirstTakes, Counted}
-use Rattle.pg_check.specs.Outcomes.{HasJournalOf}
-use Rattle.pg_main.specs.Ways.{left_of, kept_text}
+use Rattle.pg_check.specs.Outcomes.{HasJournalOf, left_of, kept_text}
 use Rattle.pg_main.specs.declared.refusal.Refusal.{Refusal}
 use Rattle.pg_main.specs.declared.refusal.Refusal.TheVariants.{Input, NoVertex, WriteFault, Memory}
 

@@ -21,8 +21,8 @@ use Rattle.pg_main.specs.Counters.{Counted}
 use Rattle.pg_main.specs.Cuts.{job_gathers}
 use Rattle.pg_main.specs.CutTexts.{job_cut_text}
 use Rattle.pg_main.specs.Meanings.{Means}
-use Rattle.pg_check.specs.Outcomes.{Outcome, HasJournalOf}
-use Rattle.pg_main.specs.Ways.{left_of, kept_text, is_kept}
+use Rattle.pg_check.specs.Outcomes.{Outcome, HasJournalOf, left_of, kept_text}
+use Rattle.pg_main.specs.Ways.{is_kept}
 
 -- what a job leaves on a graph by a journal, and its report
 abbrev pub job_outcome : RunJob → Multigraph → List JournalEntry → Outcome

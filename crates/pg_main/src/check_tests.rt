@@ -161,12 +161,12 @@ fn another_report_is_rejected_at_its_first_wrong_line(rt: HostRuntime) -> Result
 const COMMENTS: &str =
     "# Directed graph: comments.txt\n# FromNodeId\tToNodeId\n30\t10\r\n10\t20\r\n10\t20\r\n40\t40\r\n";
 
-const WEIGHTED: &str = "1 2 5\n3\t1\t1\n2 3\n";
+pub const WEIGHTED: &str = "1 2 5\n3\t1\t1\n2 3\n";
 
-const LISTS: &str = "1 2 2 3\n2 0\n3 1 1\n";
+pub const LISTS: &str = "1 2 2 3\n2 0\n3 1 1\n";
 
 /// Runs a job on a text, and checks what it wrote there. The words are those of the run.
-fn confirms<R: Threads + Sync + Abort>(
+pub fn confirms<R: Threads + Sync + Abort>(
     rt: &R,
     alloc: Global,
     words: &str,

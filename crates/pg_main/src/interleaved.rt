@@ -10,10 +10,9 @@ ghost use Rattle.pg_journal.specs.Entry.{entry_line};
 ghost use Rattle.pg_words.specs.declared.job.Engine.{Engine as Machine};
 ghost use Rattle.pg_words.specs.declared.job.Engine.TheVariants.{Virtual};
 ghost use Rattle.pg_virtual.specs.Interleaved.{Ran, RanInPart};
-ghost use Rattle.pg_check.specs.Outcomes.{HasJournal, HasJournalOf};
+ghost use Rattle.pg_check.specs.Outcomes.{HasJournal, HasJournalOf, left_by, left_of};
 ghost use Rattle.pg_main.specs.Answers.{Reports};
 ghost use Rattle.pg_main.specs.Counters.{ArePresent, FirstRises};
-ghost use Rattle.pg_main.specs.Ways.{left_by, left_of};
 
 use crate::cut::divide;
 use crate::refusal::Refusal;

@@ -1,5 +1,5 @@
 //! A report of a run that is named, judged.
-ghost use Rattle.std.specs.Prelude.{◌≡◌, ◌<◌, List, None, length};
+ghost use Rattle.std.specs.Prelude.{◌≡◌, ◌<◌, Bool, List, None, length};
 ghost use Rattle.pg_base.specs.Limits.{IsWithinStandard};
 ghost use Rattle.pg_base.specs.Cutting.{ahead};
 ghost use Rattle.pg_base.specs.Shown.{shown};
@@ -37,9 +37,9 @@ fn judge<P: VertexProgram, S: Source, L: Ledger>(
 ) -> Result<Verdict, InputError>
     requires limits { IsWithinStandard limits }
     requires fresh { cutter.old.refusal ≡ None }
-    requires named { (engine : Machine) (g : Multigraph) (lines : List ReadLine) →
-        verdict_by (P.meaning program.now) job.now.program g engine lines
-        ≡ verdict_of job.now.program engine g lines }
+    requires named { (engine : Machine) (kept : Bool) (g : Multigraph) (lines : List ReadLine) →
+        verdict_by (P.meaning program.now) job.now.program g engine kept lines
+        ≡ verdict_of job.now.program engine kept g lines }
     requires counted { (engine : Machine) (g : Multigraph) (lines : List ReadLine) →
         gathers_by (P.meaning program.now) job.now.program g engine lines
         ≡ gathers_of job.now.program engine g lines }

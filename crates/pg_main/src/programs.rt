@@ -7,8 +7,8 @@ ghost use Rattle.pg_words.specs.declared.job.Engine.{Engine as Machine};
 ghost use Rattle.pg_main.specs.Answers.{Reports};
 ghost use Rattle.pg_main.specs.Counters.{ArePresent};
 ghost use Rattle.pg_main.specs.Cuts.{gathers_by, worker_gathers, job_cut, job_gathers};
-ghost use Rattle.pg_main.specs.Ways.{left_by, left_of, is_kept};
-ghost use Rattle.pg_check.specs.Outcomes.{HasJournal, HasJournalOf};
+ghost use Rattle.pg_main.specs.Ways.{is_kept};
+ghost use Rattle.pg_check.specs.Outcomes.{HasJournal, HasJournalOf, left_by, left_of};
 ghost use Rattle.pg_sync.specs.Kept.{NeverClears};
 ghost use Rattle.pg_words.specs.Programs.{keeps};
 

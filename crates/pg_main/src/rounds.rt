@@ -8,8 +8,7 @@ ghost use Rattle.pg_words.specs.declared.job.Engine.TheVariants.{Sync};
 ghost use Rattle.pg_main.specs.Answers.{Reports};
 ghost use Rattle.pg_main.specs.Counters.{ArePresent, FirstTakes, Take};
 ghost use Rattle.pg_main.specs.Cuts.{cut_by, is_alone, gathers_by, worker_gathers};
-ghost use Rattle.pg_main.specs.Ways.{left_by, left_of};
-ghost use Rattle.pg_check.specs.Outcomes.{outcome_with, outcome_by};
+ghost use Rattle.pg_check.specs.Outcomes.{outcome_with, outcome_by, left_by, left_of};
 ghost use Rattle.pg_sync.specs.Kept.{NeverClears};
 
 use crate::cut::divide;

@@ -14,8 +14,7 @@ ghost use Rattle.pg_main.specs.Answers.{Reports};
 ghost use Rattle.pg_cut.specs.Cut.{Division};
 ghost use Rattle.pg_main.specs.Counters.{ArePresent, FirstTakes};
 ghost use Rattle.pg_main.specs.Cuts.{gathers_by, worker_gathers};
-ghost use Rattle.pg_main.specs.Ways.{left_by, left_of};
-ghost use Rattle.pg_check.specs.Outcomes.{outcome_with, outcome_by, journal_of, HasJournal, HasJournalOf};
+ghost use Rattle.pg_check.specs.Outcomes.{outcome_with, outcome_by, journal_of, HasJournal, HasJournalOf, left_by, left_of};
 
 use crate::refusal::Refusal;
 use pg_base::Sink;

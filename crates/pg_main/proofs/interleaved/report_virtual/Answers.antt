@@ -7,9 +7,8 @@ use Rattle.pg_journal.specs.Entry.{entry_line}
 use Rattle.pg_report.specs.declared.line.LastLine.{LastLine}
 use Rattle.pg_words.specs.declared.job.Engine.TheVariants.{Virtual}
 use Rattle.pg_words.specs.Programs.{is_wide}
-use Rattle.pg_check.specs.Outcomes.{outcome_with, journal_of}
+use Rattle.pg_check.specs.Outcomes.{outcome_with, journal_of, left_by, left_of}
 use Rattle.pg_main.specs.Answers.{Reports}
-use Rattle.pg_main.specs.Ways.{left_by, left_of}
 use Rattle.pg_main.proofs.Interleaving.{actors_journal, actors_left}
 use Rattle.pg_main.proofs.Reporting.{by_error, no_memory, failed, stopped, nothing_sent, head_front, journal_sent, journal_front, tail_front, tail_whole, done, actors_have, lines}
 use Rattle.pg_main.proofs.interleaved.report_virtual.Goals as goal

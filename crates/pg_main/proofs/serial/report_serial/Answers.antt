@@ -10,8 +10,7 @@ use Rattle.pg_words.specs.Programs.{is_wide}
 use Rattle.pg_main.specs.Answers.{Reports}
 use Rattle.pg_main.specs.Cuts.{worker_gathers}
 use Rattle.pg_main.proofs.Taking.{take_by, take_first}
-use Rattle.pg_check.specs.Outcomes.{Outcome, outcome_with, journal_of}
-use Rattle.pg_main.specs.Ways.{left_by, left_of}
+use Rattle.pg_check.specs.Outcomes.{Outcome, outcome_with, journal_of, left_by, left_of}
 use Rattle.pg_main.proofs.Reporting.{by_error, no_memory, failed, stopped, nothing_sent, head_front, journal_sent, journal_front, tail_front, tail_whole, done, serial_has, lines}
 use Rattle.pg_main.proofs.serial.report_serial.Goals as goal
 
