@@ -141,7 +141,17 @@ const JOURNALS: &str = "\
 4 | 1=1 2=1 3=1 4=1 | executions 4 gathers 6 | 0
 9 | 1=1 3=2 2=1 4=2 3=1 4=1 | executions 6 gathers 9 | 0
 9 | 1=1 3=2 2=1 4=2 3=1 4=1 | executions 4 gathers 6 | 13
+9 | 1=1 3=2 2=1 4=2 3=1 4=1 | executions 6 gathers 6 | 13
 9 | 1=1 3=1 2=1 4=1 | executions 4 gathers 6 | 4
+9 | 1=1 3=2 2=1 4=1 | executions 4 gathers 6 | 6";
+
+/// The same where gathers are kept, so that the last line tells those of the distinct vertices.
+const KEPT_JOURNALS: &str = "\
+9 | 2=1 1=1 3=1 4=1 | executions 4 gathers 6 | 0
+9 | 1=1 3=2 2=1 4=2 3=1 4=1 | executions 6 gathers 6 | 0
+6 | 1=1 3=2 2=1 4=2 3=1 4=1 | executions 6 gathers 6 | 0
+9 | 1=1 3=2 2=1 4=2 3=1 4=1 | executions 6 gathers 9 | 13
+9 | 1=1 3=2 2=1 4=2 3=1 4=1 | executions 6 gathers 5 | 13
 9 | 1=1 3=2 2=1 4=1 | executions 4 gathers 6 | 6";
 
 /// A report with these entries, and this behind `quiescent` in its last line.
@@ -159,7 +169,7 @@ fn report_of(alloc: Global, entries: &str, took: &str) -> Result<Vec<u8>, AllocE
 }
 
 /// The journal of one row of the table gets its verdict.
-fn has_its_verdict(rt: &impl Abort, alloc: Global, row: &str) -> Result<(), Fail> {
+fn has_its_verdict(rt: &impl Abort, alloc: Global, cache: bool, row: &str) -> Result<(), Fail> {
     let mut columns = row.split(" | ");
     if let Some(fuel) = columns.next()
         && let Some(entries) = columns.next()
@@ -167,7 +177,10 @@ fn has_its_verdict(rt: &impl Abort, alloc: Global, row: &str) -> Result<(), Fail
         && let Some(line) = columns.next()
     {
         let text = report_of(alloc, entries, took)?;
-        let job = executions(number(rt, fuel));
+        let job = RunJob {
+            cache,
+            ..executions(number(rt, fuel))
+        };
         let found = find(alloc, &Components::new(), job, text.as_slice(), 999, &[])?;
         let line = number(rt, line) as u64;
         let verdict = if line == 0 {
@@ -185,9 +198,44 @@ fn has_its_verdict(rt: &impl Abort, alloc: Global, row: &str) -> Result<(), Fail
 #[test]
 fn any_legal_journal_is_right(rt: HostRuntime) -> Result<(), Fail> {
     for row in JOURNALS.split('\n') {
-        has_its_verdict(&rt, rt.alloc(), row)?;
+        has_its_verdict(&rt, rt.alloc(), false, row)?;
     }
     Ok(())
+}
+
+#[test]
+fn a_journal_with_kept_gathers_tells_each_vertex_once(rt: HostRuntime) -> Result<(), Fail> {
+    for row in KEPT_JOURNALS.split('\n') {
+        has_its_verdict(&rt, rt.alloc(), true, row)?;
+    }
+    Ok(())
+}
+
+/// The check of a report of rounds that tells so many gathers finds so.
+fn finds_told(
+    rt: &impl Abort,
+    alloc: Global,
+    cache: bool,
+    gathers: u64,
+    verdict: Verdict,
+) -> Result<(), Fail> {
+    let last = format!(in alloc; "# quiescent rounds 3 executions 7 gathers {gathers}\n")?;
+    let text = text_with(alloc, SYNC.as_slice(), 6, last.as_str())?;
+    let job = RunJob { cache, ..rounds() };
+    let found = find(alloc, &Components::new(), job, text.as_slice(), 999, &[])?;
+    assert_eq!(rt; found, Ok(verdict), "{gathers}");
+    Ok(())
+}
+
+/// All four vertices execute, over six edges together; the seven executions gather over ten.
+#[test]
+fn rounds_with_kept_gathers_tell_each_vertex_once(rt: HostRuntime) -> Result<(), Fail> {
+    let alloc = rt.alloc();
+    let last = Verdict::Rejected { line: 7 };
+    finds_told(&rt, alloc, true, 6, Verdict::Confirmed)?;
+    finds_told(&rt, alloc, true, 10, last)?;
+    finds_told(&rt, alloc, false, 10, Verdict::Confirmed)?;
+    finds_told(&rt, alloc, false, 6, last)
 }
 
 /// A check of the report of rounds within so many bytes, whose third line is this, finds so.
