@@ -2,7 +2,7 @@
 use Rattle.std.proofs.Common.{◌≡◌, ℕ, ◌<◌, cond, ◌==◌, Vec, Global, List, [], ◌∷◌, ◌++◌, length, get_or, set, map, refl, sym, ◌∙◌, ap, arith, inl, inr, length-set}
 use Rattle.std.specs.List.{range_with_len}
 use Rattle.std.proofs.lemmas.Bool.{cases_eq, eq-eqb, ne_eqb}
-use Rattle.std.proofs.lemmas.List.{map-set, get_or-set_same, get_or-set_other, get_or-map, length-map, append-nil, append_assoc}
+use Rattle.std.proofs.lemmas.List.{map-set, get_or-set_same, get_or-set_other, get_or-map, length-map, append-nil}
 use Rattle.std.proofs.lemmas.List.FromFn.{fill_by_all, length-map-range_with_len, get_or-map-range_with_len}
 use Rattle.pg_cut.specs.ByWorker.{lists_in, Appends}
 
@@ -48,19 +48,6 @@ no_lists {A} list rooms lists is none = record {
 
 pub lists_made : {A : Type 0} (list : ℕ → List A) (n : ℕ) (lists : List (List A)) → AreLists list n lists → lists ≡ map list (range_with_len 0 n)
 lists_made list n lists are = fill_by_all list lists n [] are.count are.each
-
--- growth in two steps
-pub appends_more : {A : Type 0} (old between new : List (List A)) (first second both : ℕ → List A) → Appends old between first → Appends between new second → ((w : ℕ) → w < length old → first w ++ second w ≡ both w) → Appends old new both
-appends_more old between new first second both a b agree = record {
-  count = b.count ∙ a.count;
-  each = λ w h. b.each w (omega (arith, a.count)) ∙ ap (λ xs. xs ++ second w) (a.each w h) ∙ append_assoc (get_or old w []) (first w) (second w) ∙ ap (λ xs. get_or old w [] ++ xs) (agree w h);
-}
-
-pub appends_none : {A : Type 0} (lists : List (List A)) (more : ℕ → List A) → ((w : ℕ) → more w ≡ []) → Appends lists lists more
-appends_none lists more none = record {
-  count = refl;
-  each = λ w h. sym (ap (λ xs. get_or lists w [] ++ xs) (none w) ∙ append-nil (get_or lists w []));
-}
 
 -- one of several lists
 pub list_read : {A : Type 0} (list : ℕ → List A) (n : ℕ) (lists : List (Vec A Global)) (w : ℕ) (x : Vec A Global) → lists_in lists ≡ map list (range_with_len 0 n) → w < n → x ≡ get_or lists w x → x.items ≡ list w

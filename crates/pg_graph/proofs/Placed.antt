@@ -221,9 +221,6 @@ module _ (ids sorted ranks : List ℕ) (are : AreRanks ids sorted ranks) where
       let edge = each k d h in
       record { src = (are.rank (get_or edges k d).src edge.src).within; dst = (are.rank (get_or edges k d).dst edge.dst).within })
 
-  pub placed_ranks : (edges : List Edge) → All (IsPlaced ids) edges → All (IsPlaced ranks) edges
-  placed_ranks edges each = λ k d h. let edge = each k d h in record { src = omega (arith, edge.src, are.count); dst = omega (arith, edge.dst, are.count) }
-
 -- and they are the edges of a graph
 pub finished : (b : Building) → IsBuilding b → (ids : List ℕ) (edges : List Edge) → IsPermutation b.ids ids → IsStrictlyIncreasing ids → map (named ids) edges ≡ b.edges → All (IsPlaced ids) edges → IsMultigraph (multigraph ids edges b.loops)
 finished b kept ids edges same increases names placed =

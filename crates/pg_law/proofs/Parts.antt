@@ -170,14 +170,6 @@ module _ {Acc Carry : Type 0} (p : Program Acc Carry) (law : IsLawful p) where
       → fold (λ a w. p.sum a (sum_over p g values words u (part place w edges))) p.empty (range_with_len 0 workers) ≡ sum_over p g values words u edges
   partial_sums g values words u place workers edges below own = parts_sum_up p.IsAcc p.empty p.sum sum_monoid (gathered p g values words u) place workers edges below own
 
-  -- the signals that the workers' edges send to a vertex, joined at the end, are those of all edges
-  pub partial_signals : (g : Multigraph) (values : List Datum) (words : List ℕ) (became : List (Option (Applied Carry))) (v : ℕ) (message : Option ℕ) (place : ℕ → ℕ) (workers : ℕ) (edges : List ℕ)
-      → IsOptional p.IsMessage message → AllByRecursion (λ e. place e < workers) edges → AllByRecursion (λ e. IsOptional p.IsMessage (signal_to p g values words became v e)) edges
-      → join p.combine message (fold (λ m w. join p.combine m (with_signals p g values words became v None (part place w edges))) None (range_with_len 0 workers)) ≡ with_signals p g values words became v message edges
-  partial_signals g values words became v message place workers edges m below own = let P = IsOptional p.IsMessage in
-      ap (join p.combine message) (parts_sum_up P None (join p.combine) join_monoid (signal_to p g values words became v) place workers edges below own)
-      ∙ sym (fold_from P None (join p.combine) join_monoid (signal_to p g values words became v) message edges m own)
-
   -- the signals of the workers' edges, received worker by worker, are those of all edges
   pub signals_in_turn : (g : Multigraph) (values : List Datum) (words : List ℕ) (became : List (Option (Applied Carry))) (v : ℕ) (message : Option ℕ) (place : ℕ → ℕ) (workers : ℕ) (edges : List ℕ)
       → IsOptional p.IsMessage message → AllByRecursion (λ e. place e < workers) edges → AllByRecursion (λ e. IsOptional p.IsMessage (signal_to p g values words became v e)) edges

@@ -112,13 +112,6 @@ module _ {Acc Carry : Type 0} (p : Program Acc Carry) (g : Multigraph) (graph : 
   stays_signalled v h idle some = message_waits (λ (m : Option ℕ). is_some m ≡ true) v h idle
       (λ m more kept. join_left p.combine m more kept) some
 
-  -- what an end receives is what the other end sent
-  received_is : (side : Side) (e : ℕ)
-      → received side (sent p g s executes Source e) (sent p g s executes Target e)
-      ≡ sent p g s executes (opposite side) e
-  received_is Source e = refl
-  received_is Target e = refl
-
   -- a signal that is sent over an edge arrives
   arrives : (side : Side) (e : ℕ) → e < length g.edges
       → is_some (sent p g s executes side e) ≡ true
