@@ -3,3 +3,5 @@ pub mod Rows
 pub mod Merging
 pub mod Sharing
 pub mod Parting
+pub mod Deskwork
+pub mod Sweeping

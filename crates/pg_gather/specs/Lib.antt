@@ -1,3 +1,4 @@
 pub mod Partials
 pub mod Merging
 pub mod Shares
+pub mod Desks

@@ -6,6 +6,7 @@ ghost use Rattle.pg_gather.specs.Partials.{IsReadable, has_replica, gathers_here
 ghost use Rattle.pg_gather.specs.Partials.{partial_sum as part_of, partial_sums as parts_of};
 
 use crate::near::near_at;
+use crate::sweep::{is_for_a_sweep, sweep_sums};
 use pg_edge_store::EdgeStore;
 use pg_graph::Graph;
 use pg_law::{Steps, VertexProgram, laws_of};
@@ -96,6 +97,9 @@ pub fn partial_sums<P: VertexProgram, L: Ledger>(
     ensures counted { let p = P.meaning program.now in OnOk result (steps.new ≡ steps.old +
         gathers_here p graph.now store.now mirrors.now wanted.now) }
 {
+    if is_for_a_sweep(store, mirrors, wanted) {
+        return sweep_sums(alloc, program, graph, store, mirrors, wanted, steps);
+    }
     let room = wanted.len().min(mirrors.len() as usize);
     let mut sums = Vec::with_capacity(alloc, room)?;
     for u in wanted {
