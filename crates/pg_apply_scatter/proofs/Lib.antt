@@ -2,6 +2,7 @@ pub mod Reading
 pub mod Listing
 pub mod Combining
 pub mod Visiting
+pub mod Seating
 pub mod Skipping
 pub mod Receiving
 pub mod Applying

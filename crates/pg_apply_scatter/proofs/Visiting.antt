@@ -28,7 +28,7 @@ use Rattle.pg_apply_scatter.proofs.Reading.{replica_own}
 use Rattle.pg_apply_scatter.specs.Sending.{AreReplicas, near_with, scatter_near, source_here, between_here, target_here, final_here, sent_over, final_at, sent_at, words_after, sent_from, sent_to, IsSentIn}
 
 -- what holds of an element and of what is written holds of the element after the write
-set_keeps : {X : Type 0} (P : X → Type 0) (xs : List X) (i k : ℕ) (w d : X) → P (get_or xs i d) → P w → P (get_or (set xs k w) i d)
+pub set_keeps : {X : Type 0} (P : X → Type 0) (xs : List X) (i k : ℕ) (w d : X) → P (get_or xs i d) → P w → P (get_or (set xs k w) i d)
 set_keeps P [] i k w d old new = old
 set_keeps P (x ∷ xs) zero zero w d old new = new
 set_keeps P (x ∷ xs) zero (suc k) w d old new = old
@@ -146,7 +146,7 @@ All_flat_map P f [] all = All-nil P
 All_flat_map P f (x ∷ xs) all = All-append P (f x) (flat_map f xs) all.0 (All_flat_map P f xs all.1)
 
 module _ {Acc Carry : Type 0} (p : Program Acc Carry) (g : Multigraph) (law : IsLawful p) (graph : IsMultigraph g) (m : Mirrors) (carries : List (Option Carry)) (replicas : AreReplicas p m) (own : AreCarries p g carries) where
-  near_own_here : (side : Side) (e word : ℕ) → IsReadableAt g m e → p.IsWord word → IsNear p (near_with g m side e word)
+  pub near_own_here : (side : Side) (e word : ℕ) → IsReadableAt g m e → p.IsWord word → IsNear p (near_with g m side e word)
   near_own_here side e word at w = record {
     edge = edge_known g graph e at.edge;
     word = w;

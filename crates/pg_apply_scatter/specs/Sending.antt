@@ -16,7 +16,6 @@ use Rattle.pg_law.specs.Round.{word_after}
 use Rattle.pg_edge_store.specs.Store.{Store}
 use Rattle.pg_mirrors.specs.Mirrors.{Mirrors, datum_at}
 use Rattle.pg_gather.specs.Partials.{replica_of}
-use Rattle.pg_law.specs.Configuration.{message_in}
 use Rattle.pg_apply_scatter.specs.declared.sent.Sent.{Sent}
 use Rattle.pg_apply_scatter.specs.declared.visit.Visits.{Visits}
 
@@ -77,9 +76,9 @@ abbrev pub signal_for : {Acc : Type 0} → ℕ → Option ℕ → List (Sent Acc
 signal_for v None = []
 signal_for v (Some message) = record { to = v; signal = Some message; delta = Nothing } ∷ []
 
--- one signal for each vertex that has a message, ascending
-abbrev pub one_each : {Acc : Type 0} → List (Option ℕ) → List (Sent Acc)
-one_each messages = flat_map (λ v. signal_for v (message_in messages v)) (range_with_len 0 (length messages))
+-- one signal for each vertex below a number that has a message, ascending
+abbrev pub one_each : {Acc : Type 0} → (ℕ → Option ℕ) → ℕ → List (Sent Acc)
+one_each message count = flat_map (λ v. signal_for v (message v)) (range_with_len 0 count)
 
 -- what is listed of all that is sent: the whole, or the signals alone
 abbrev pub listing : {Acc : Type 0} → Bool → List (Sent Acc) → List (Sent Acc)

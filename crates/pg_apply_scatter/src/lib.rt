@@ -3,12 +3,13 @@
 
 mod apply;
 mod delivery;
+mod dense;
+mod desk;
 mod laws;
 mod near;
 mod push;
 mod scatter;
 mod sent;
-mod slots;
 mod visit;
 
 pub use apply::apply_masters;

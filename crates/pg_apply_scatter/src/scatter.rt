@@ -10,8 +10,8 @@ ghost use Rattle.pg_apply_scatter.specs.Sending.{IsSentIn, words_after, sent_fro
 ghost use Rattle.pg_apply_scatter.specs.Sending.{listing};
 ghost use Rattle.pg_apply_scatter.specs.Delivering.{DeliverTheSame, StandsFor};
 
+use crate::dense::scatter_desks;
 use crate::sent::Sent;
-use crate::slots::{combine_visits, list_slots};
 use crate::visit::{push_visits, visit_place};
 use pg_edge_store::EdgeStore;
 use pg_graph::{Dir, Graph};
@@ -42,37 +42,6 @@ fn scatter_all<P: VertexProgram>(
         push_visits(&mut sent, visits, true)?;
     }
     Ok(sent)
-}
-
-/// Visits all edges of a worker, ascending, and combines the signals for each vertex as it goes.
-///
-/// So at most one signal for each vertex is handed over, however many edges were scattered over.
-fn scatter_slots<P: VertexProgram>(
-    alloc: Global,
-    program: &P,
-    graph: &Graph,
-    store: &mut EdgeStore,
-    mirrors: &MirrorTable,
-    carries: &[Option<P::Carry>],
-) -> Result<Vec<Sent<P::Acc>>, AllocError>
-    requires readable { IsReadable (P.meaning program.now) graph.now store.old mirrors.now }
-    requires carries { AreCarries (P.meaning program.now) graph.now carries.now }
-    ensures words { let p = P.meaning program.now in OnOk result (store.new ≡ record store.old {
-      words = words_after p graph.now mirrors.now carries.now store.old;
-    }) }
-    ensures sent { let p = P.meaning program.now in IfOk result (λ sent. DeliverTheSame p
-        sent.items (sent_from p graph.now mirrors.now carries.now store.old)) }
-    ensures own { IfOk result (λ sent.
-        All (IsSentIn (P.meaning program.now) (length graph.now.ids)) sent.items) }
-{
-    laws_of(program);
-    let mut room = vec![in alloc; None; graph.vertices() as usize]?;
-    let slots = room.as_mut_slice();
-    for place in 0..store.len() {
-        let visits = visit_place(alloc, program, graph, store, mirrors, carries, place)?;
-        combine_visits(program, slots, &visits);
-    }
-    list_slots(alloc, slots)
 }
 
 /// Appends the places around a vertex, as long as there are fewer than a limit. False if not all of
@@ -204,7 +173,7 @@ fn visit_edges<P: VertexProgram>(
             if with_deltas {
                 scatter_all(alloc, program, graph, store, mirrors, carries)
             } else {
-                scatter_slots(alloc, program, graph, store, mirrors, carries)
+                scatter_desks(alloc, program, graph, store, mirrors, carries)
             }
         }
     }

@@ -28,7 +28,7 @@ pub struct Visits<A> {
 }
 
 /// The word of an edge after a visit.
-fn word_of<A>(old: u64, scattered: &Option<Scattered<A>>) -> u64
+pub fn word_of<A>(old: u64, scattered: &Option<Scattered<A>>) -> u64
     ensures { result ≡ word_after old scattered.now }
 {
     match scattered {
