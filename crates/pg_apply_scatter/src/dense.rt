@@ -1,5 +1,5 @@
 //! A worker that goes over all its edges, and combines the signals at the desks of its replicas.
-ghost use Rattle.std.specs.Prelude.{◌≡◌, ◌<◌, ℕ, length, slice_set, All, IfOk, OnOk};
+ghost use Rattle.std.specs.Prelude.{◌≡◌, ◌<◌, ℕ, length, slice_index, slice_set, All, IfOk, OnOk};
 ghost use Rattle.pg_graph.specs.Multigraph.{Multigraph};
 ghost use Rattle.pg_law.specs.Carries.{AreCarries, IsCarried};
 ghost use Rattle.pg_law.specs.Laws.{IsNear};
@@ -46,6 +46,17 @@ fn scatter_at<P: VertexProgram>(
                 Ok(None)
             }
         }
+    }
+}
+
+/// Gives the edge at a place another word, and writes nothing where it stays.
+fn write_word(store: &mut EdgeStore, place: u32, old: u64, word: u64)
+    requires place { place < length store.old.numbers }
+    requires old { old ≡ slice_index store.old.words place }
+    ensures { store.new ≡ record store.old { words = slice_set store.old.words place word } }
+{
+    if word != old {
+        store.set_word(place, word);
     }
 }
 
@@ -99,7 +110,7 @@ fn visit_desks<P: VertexProgram>(
         other: from.datum,
     };
     let target = scatter_at(alloc, program, near, to.carry)?;
-    store.set_word(place, word_of(between, &target));
+    write_word(store, place, word, word_of(between, &target));
     Ok(Visits {
         edge: local,
         source,

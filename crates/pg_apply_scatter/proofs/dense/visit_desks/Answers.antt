@@ -45,7 +45,7 @@ scatter_at-requires-2-clause-carry g c κs within = let p = g.P.VertexProgram.me
     read_carried p c.args.graph.now c.vertices.ensures.graph c.args.store.now c.args._mirrors.now c.args._carries.now c.args.desks.now c.requires.readable c.requires.desks c.args.place c.requires.place c.edge-e.result c.local-local.result c.edge-e.ensures c.local-local.ensures c.requires.carries Target c.index-desks-local-2.result c.index-desks-local-2.is
 
 -- what the two visits gave
-visits : (g : _) (c : goal.After-set_word g) → let p = g.P.VertexProgram.meaning c.args.program.now in
+visits : (g : _) (c : goal.After-write_word g) → let p = g.P.VertexProgram.meaning c.args.program.now in
     (c.in_ok-source.source ≡ source_here p c.args.graph.now c.args._mirrors.now c.args._carries.now c.edge-e.result c.word-word.result)
     × (c.word_of-between.result ≡ between_here p c.args.graph.now c.args._mirrors.now c.args._carries.now c.edge-e.result c.word-word.result)
     × (c.in_ok-target.target ≡ target_here p c.args.graph.now c.args._mirrors.now c.args._carries.now c.edge-e.result c.word-word.result)
@@ -59,7 +59,7 @@ pub returns-clause-words : goal.returns-clause-words
 returns-clause-words g c = let both = visits g c in
     let final = final_is (g.P.VertexProgram.meaning c.args.program.now) c.args.graph.now c.args._mirrors.now c.args._carries.now c.args.store.now c.args.place c.edge-e.result c.word-word.result c.word_of-between.result c.word_of.result c.in_ok-target.target
     c.edge-e.ensures c.word-word.ensures both.1 both.2 c.word_of.ensures in
-    c.set_word.ensures ∙ ap (λ w. record c.args.store.now { words = set c.args.store.now.words c.args.place w }) final
+    c.write_word.ensures ∙ ap (λ w. record c.args.store.now { words = set c.args.store.now.words c.args.place w }) final
 
 pub returns-clause-visits : goal.returns-clause-visits
 returns-clause-visits g c = let p = g.P.VertexProgram.meaning c.args.program.now in let graph = c.args.graph.now in let m = c.args._mirrors.now in let carries = c.args._carries.now in
@@ -77,4 +77,4 @@ returns-clause-readable g c = let p = g.P.VertexProgram.meaning c.args.program.n
     let between : p.IsWord c.word_of-between.result = rw c.word_of-between.ensures (word_own p c.args.graph.now c.laws_of.ensures c.vertices.ensures.graph c.word-word.result c.in_ok-source.source word c.in_ok-source.ensures.own) in
     let final : p.IsWord c.word_of.result = rw c.word_of.ensures (word_own p c.args.graph.now c.laws_of.ensures c.vertices.ensures.graph c.word_of-between.result c.in_ok-target.target between c.in_ok-target.ensures.own) in
     let Readable : Store → Type 0 = λ s. IsReadable p c.args.graph.now s c.args._mirrors.now in
-    subst Readable (sym c.set_word.ensures) (readable_after p c.args.graph.now c.args.store.now c.args._mirrors.now c.args.place c.word_of.result c.requires.readable final)
+    subst Readable (sym c.write_word.ensures) (readable_after p c.args.graph.now c.args.store.now c.args._mirrors.now c.args.place c.word_of.result c.requires.readable final)
