@@ -50,12 +50,6 @@ pub stand_on : (expected : ReportLine) (more : List ReportLine) (others : Judge)
 stand_on expected more others number None lines is = absurd (false≢true is)
 stand_on expected more others number (Some line) lines is = rw is refl
 
-pub stand_off : (expected : ReportLine) (more : List ReportLine) (others : Judge) (number : ℕ) (line : Option ReadLine) (lines : List ReadLine)
-    → stands (line_text expected) line ≡ false
-    → expects (expected ∷ more) others number (with_line line lines) ≡ Rejected number
-stand_off expected more others number None lines is = refl
-stand_off expected more others number (Some line) lines is = rw is refl
-
 -- two tests that agree below a number pass the same
 agree_below : (q r : ℕ → Bool) (a n : ℕ) → ((v : ℕ) → v < a + n → q v ≡ r v) → filter q (range_with_len a n) ≡ filter r (range_with_len a n)
 agree_below q r a zero same = refl

@@ -1,5 +1,5 @@
 -- A report as a text, and its lines.
-use Rattle.std.proofs.Common.{◌≡◌, ℕ, Bool, true, ◌==◌, cond, List, [], ◌∷◌, ◌++◌, map, All, refl, sym, ◌∙◌, ap, codes, append_assoc, length, ◌<◌}
+use Rattle.std.proofs.Common.{◌≡◌, ℕ, Bool, true, ◌==◌, cond, List, [], ◌∷◌, ◌++◌, map, All, refl, sym, ◌∙◌, ap, codes, append_assoc}
 use Rattle.std.specs.List.{flat_map}
 use Rattle.std.specs.Prelude.{◌≢◌, Option, Some, None, slice_index}
 use Rattle.std.proofs.lemmas.Bool.{cases_Bool, ne_eqb, eqb-true}
@@ -11,8 +11,6 @@ use Rattle.std.proofs.lemmas.List.{append-nil}
 use Rattle.std.proofs.lemmas.List.Elements.{All-head, All-tail}
 use Rattle.std.proofs.lemmas.List.Folds.{flat_map-map}
 use Rattle.pg_graph.specs.Multigraph.{Multigraph, vertices}
-use Rattle.pg_base.specs.Lines.{first_line, has_feed, later_lines}
-use Rattle.pg_input.proofs.TextLemmas.{lines-first}
 use Rattle.pg_input.specs.Texts.{TextLine, text_line, lines, onto_first}
 use Rattle.pg_law.specs.declared.values.JournalEntry.{JournalEntry}
 use Rattle.pg_law.specs.Configuration.{Configuration, datum_in, message_in}
@@ -27,7 +25,7 @@ use Rattle.pg_words.specs.Programs.{is_wide}
 use Rattle.pg_words.specs.declared.job.Engine.{Engine}
 use Rattle.pg_words.specs.declared.job.ProgramName.{ProgramName}
 use Rattle.pg_check.specs.Outcomes.{Outcome, engine_name, text_of}
-use Rattle.pg_check.specs.Reports.{ReadLine, read_line, entry_row, value_lines, message_lines, signal_lines, tail_lines, read_report}
+use Rattle.pg_check.specs.Reports.{ReadLine, read_line, entry_row, value_lines, message_lines, signal_lines, tail_lines}
 use Rattle.pg_check.specs.Right.{report_lines}
 
 -- a line as it is read where its line feed stands
@@ -50,11 +48,6 @@ lines_again (byte ∷ text) = elim (cases_Bool (byte == 10)) [
   | inl here ↦ rw here (ap (λ (rest : List ℕ). 10 ∷ rest) (lines_again text) ∙ ap (λ (b : ℕ). b ∷ text) (sym (eqb-true byte 10 here)))
   | inr not ↦ rw not (onto_bytes byte text (lines text) (lines_again text))
 ]
-
--- the lines of a text are those of a report whose header is its first line
-pub header_read : (text : List ℕ) → 0 < length text
-    → map read_line (lines text) ≡ read_report (Some (first_line text, has_feed text)) (later_lines text)
-header_read text some = ap (map read_line) (lines-first text some)
 
 -- a line feed ends a line that has none within
 lines_feed : (bytes rest : List ℕ) → All (λ byte. byte ≢ 10) bytes → lines (bytes ++ 10 ∷ rest) ≡ text_line bytes true rest ∷ lines rest

@@ -1,7 +1,7 @@
 -- A report that is read line by line: what was read, what is expected, and the limit of bytes.
-use Rattle.std.proofs.Common.{◌≡◌, ℕ, suc, ◌+◌, ◌-◌, ◌<◌, ◌≤◌, Bool, true, false, ◌==◌, ◌||◌, cond, List, [], ◌∷◌, ◌++◌, length, take, drop, map, refl, sym, ◌∙◌, ap, subst, arith, append_assoc, length-append, ◌⊎◌, inl, inr}
+use Rattle.std.proofs.Common.{◌≡◌, ℕ, suc, ◌+◌, ◌-◌, ◌<◌, ◌≤◌, Bool, true, false, ◌==◌, ◌||◌, cond, List, [], ◌∷◌, ◌++◌, length, take, drop, map, refl, sym, ◌∙◌, ap, subst, arith, append_assoc, length-append}
 use Rattle.std.specs.Prelude.{Option, Some, None, IfSome, OnSome, nat_lt}
-use Rattle.std.proofs.lemmas.Bool.{cases_Bool, false≢true}
+use Rattle.std.proofs.lemmas.Bool.{false≢true}
 use Rattle.std.proofs.lemmas.Bool.Decides.{nat_tests}
 use Rattle.std.proofs.lemmas.List.{append-nil, take_all}
 use Rattle.std.proofs.Math.Seq.{take-append-add}
@@ -89,16 +89,6 @@ fits_on : (limit given : ℕ) (line : TextLine) (later : List TextLine) → give
     → event_in limit given (line ∷ later) ≡ event_in limit (given + width line) later
 fits_on limit given line later near =
     let within : nat_lt limit (given + width line) ≡ false = grind (arith, nat_tests) in rw within refl
-
--- it is the only one
-pub one_event : (limit given : ℕ) (all : List TextLine)
-    → (event_in limit given all ≡ None) ⊎ (event_in limit given all ≡ Some (Limit Bytes limit))
-one_event limit given [] = inl refl
-one_event limit given (line ∷ later) =
-    elim (cases_Bool (nat_lt limit (given + width line))) [
-      | inl past ↦ inr (rw past refl)
-      | inr within ↦ rw within (one_event limit (given + width line) later)
-    ]
 
 module _ {Acc Carry : Type 0} (p : Program Acc Carry) (name : ProgramName) (g : Multigraph) where
   replays_later : (kept : Bool) (noted : List Bool) (s : Configuration) (tally : Tally) (number : ℕ) (lines : List ReadLine) → IsFrom number (replays_from p name g kept noted s tally number lines)
@@ -291,10 +281,6 @@ steps_same p name g engine kept old new steps_old steps_new number line (Rejecte
 pub both_some : (P Q : List ℕ → Type 0) (left : Option (List ℕ)) → IfSome left P → IfSome left Q → IfSome left (λ text. P text × Q text)
 both_some P Q None p q = tt
 both_some P Q (Some text) p q = (p, q)
-
-pub if_told : (P : List ℕ → Type 0) → ((text : List ℕ) → P text) → (left : Option (List ℕ)) → IfSome left P
-if_told P all None = tt
-if_told P all (Some text) = all text
 
 -- nothing is left in a source where nothing comes
 nothing_behind : (held rest : List ℕ) → held ++ rest ≡ [] → rest ≡ []

@@ -12,10 +12,6 @@ by_test : {X : Type 0} (P : X → Type 0) (x y : X) (j i : ℕ) (b : Bool) → D
 by_test P x y j i true d here there = here (d.0 refl)
 by_test P x y j i false d here there = there (λ e. absurd (true≢false (sym (d.1 e))))
 
--- what holds of x at i, and of the others elsewhere, holds of the changed family
-pub set_cases : {X : Type 0} (P : X → Type 0) (f : ℕ → X) (i : ℕ) (x : X) (j : ℕ) → (j ≡ i → P x) → (j ≢ i → P (f j)) → P (set_at f i x j)
-set_cases P f i x j here there = by_test P x (f j) j i (j == i) (Decides-eqb j i) here there
-
 same_test : (j i : ℕ) (b : Bool) → Decides b (j ≡ i) → (j ≡ i) ⊎ (j ≢ i)
 same_test j i true d = inl (d.0 refl)
 same_test j i false d = inr (λ e. true≢false (sym (d.1 e)))

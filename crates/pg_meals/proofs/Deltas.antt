@@ -53,11 +53,6 @@ joined-clear f (Add a) = refl
 joined-clear f Clear = refl
 
 module _ {A : Type 0} (P : A → Type 0) (f : A → A → A) (sums : (a b : A) → P a → P b → P (f a b)) (swaps : (a b : A) → P a → P b → f a b ≡ f b a) (regroups : (a b c : A) → P a → P b → P c → f (f a b) c ≡ f a (f b c)) where
-  pub settled_in : (a : A) (x : Delta A) (z : A) → P a → IsDelta P x → settled f a x ≡ Some z → P z
-  settled_in a Nothing z i j e = subst P (some_of a z e) i
-  settled_in a Clear z i j e = absurd (cc)
-  settled_in a (Add b) z i j e = subst P (some_of (f a b) z e) (sums a b i j)
-
   -- two deltas one after another
   pub settled_twice : (a : A) (x y : Delta A) (z : A) → P a → IsDelta P x → IsDelta P y → settled f a (joined f x y) ≡ Some z → (w : A) × (settled f a x ≡ Some w) × (settled f w y ≡ Some z)
   settled_twice a Nothing y z i j k e = (a, refl, e)

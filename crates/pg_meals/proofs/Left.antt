@@ -29,19 +29,6 @@ pub record IsFilled {X : Type 0} (f : ℕ → X) (n m : ℕ) (ys : List X) : Typ
   pub count : length ys ≡ m
   pub each : (u : ℕ) (y : X) → u < n → slice_index_or ys u y ≡ f u
 
--- one more is
-pub filled_more : {X : Type 0} (f : ℕ → X) (n m : ℕ) (ys : List X) (x : X) → IsFilled f n m ys → n < m → x ≡ f n → IsFilled f (n + 1) m (slice_set ys n x)
-filled_more f n m ys x filled i is = record {
-  count = length-set ys n x ∙ filled.count;
-  each = λ u y l. read_set ys n x u y (omega (arith, i, filled.count)) ∙ go u y l (same_or_not u n);
-}
-  where
-    go : (u : ℕ) (y : _) → u < n + 1 → (u ≡ n) ⊎ (u ≢ n) → cond (u == n) x (slice_index_or ys u y) ≡ f u
-    go u y l (inl q) =
-        let t : (u == n) ≡ true = (Decides-eqb u n).1 q in
-        rw (t) (is ∙ ap f (sym q))
-    go u y l (inr d) = rw (false_test u n d) (filled.each u y (omega (arith, l, d)))
-
 -- all are
 pub filled_all : {X : Type 0} (f : ℕ → X) (n m : ℕ) (d : X) (ys : List X) → IsFilled f n m ys → m ≤ n → ys ≡ map f (range_with_len 0 m)
 filled_all f n m d ys filled l = fill_by_all f ys m d filled.count (λ k i. filled.each k d (omega (arith, i, l)))

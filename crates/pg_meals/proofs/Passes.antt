@@ -57,10 +57,6 @@ phase_left g w x e s n l (has a d t c k) =
     has (l.side ∙ a) (l.dirty ∙ d) (λ b p. l.same_taken b (l.old_pins b p) ∙ t b (l.old_pins b p)) (λ b p. l.same_committed b (l.old_pins b p) ∙ c b (l.old_pins b p))
     (subst (λ j. entries_of (g.end (opposite s) e) j ≤ n + 1) (sym l.journal) k)
 
-not_own : (s : Side) → s ≢ opposite s
-not_own Source e = cc
-not_own Target e = cc
-
 flip : (t s : Side) → t ≡ opposite s → opposite t ≡ s
 flip Source Target e = refl
 flip Target Source e = refl

@@ -62,9 +62,6 @@ module _ (u : ℕ) (edge : Edge) (stands : is_at u edge ≡ true) (apart : edge.
   by_source true e = rw e (eqb-true edge.src u e, ne_eqb edge.dst u (λ d. apart (eqb-true edge.src u e ∙ sym d)))
   by_source false e = rw e (eqb-true edge.dst u (rw e at stands), e)
 
-  pub stands_there : end_of (side_of u edge) edge ≡ u
-  stands_there = (by_source (edge.src == u) refl).0
-
   pub not_there : (end_of (opposite (side_of u edge)) edge == u) ≡ false
   not_there = (by_source (edge.src == u) refl).1
 
