@@ -12,7 +12,7 @@ use Rattle.pg_cut.proofs.Passing.{passing_longer, passing_at}
 use Rattle.pg_edge_store.specs.Store.{Store, IsStoreOf}
 use Rattle.pg_sync.specs.declared.worker.Scattering.{Scattering}
 use Rattle.pg_sync.specs.Held.{no_worker, store_at}
-use Rattle.pg_sync.specs.Putting.{HasWordsOf, IsPut}
+use Rattle.pg_sync.specs.Putting.{HasWordsOf}
 
 -- one more word is put
 pub kept_more : (s : Store) (t words : List ℕ) (i : ℕ) → HasWordsOf t s → i < length s.numbers → get_or s.numbers i 0 < length words → (e : ℕ) → get_or words e 0 ≡ get_or t e 0
@@ -39,15 +39,6 @@ here_more s t words i own h inside before k below = let n = get_or s.numbers i 0
 abbrev pub AreRight : {Acc : Type 0} → List (Scattering Acc) → List ℕ → ℕ → List ℕ → Type 0
 AreRight workers t n words = (w : ℕ) → w < n → (k : ℕ) → k < length (store_at workers w).numbers
     → slice_index words (slice_index (store_at workers w).numbers k) ≡ slice_index t (slice_index (store_at workers w).numbers k)
-
--- one more worker's
-pub right_more : {Acc : Type 0} (workers : List (Scattering Acc)) (t : List ℕ) (n : ℕ) (old new : List ℕ) → HasWordsOf t (store_at workers n) → AreRight workers t n old → IsPut (store_at workers n) old new → AreRight workers t (n + 1) new
-right_more workers t n old new own right put w h k inside = ⊎_elim
-    (λ lt. put.kept t own (slice_index (store_at workers w).numbers k) (right w lt k inside))
-    (λ ge. let same : n ≡ w = omega arith in
-    let Right : ℕ → Type 0 = λ v. (k : ℕ) → k < length (store_at workers v).numbers → slice_index new (slice_index (store_at workers v).numbers k) ≡ slice_index t (slice_index (store_at workers v).numbers k) in
-    subst Right same (put.each t own) k inside)
-    (cases_lt w n)
 
 module _ (g : Multigraph) (cut : Division) (is : IsCutOf g cut) where
   pub numbers_inside : (w : ℕ) (s : Store) → IsStoreOf g cut w s → All (λ e. e < length g.edges) s.numbers
