@@ -17,8 +17,3 @@ mod words;
 mod worker;
 
 pub use engine::{SyncEnd, SyncEngine};
-pub use masters::Masters;
-pub use round::one_round;
-pub use run::{Ran, run_parts};
-pub use shares::{replicas_of, workers_of};
-pub use worker::{Scattering, Seat};
