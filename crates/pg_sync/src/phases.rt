@@ -97,8 +97,8 @@ pub fn push_phase<R: Threads + Sync>(
     );
 }
 
-/// Every worker scatters for the vertices with a carry, in a thread of its own. What it sends is
-/// listed with its deltas, or as signals alone that deliver the same.
+/// Every worker scatters for the vertices with a carry, in so many threads. What it sends is listed
+/// with its deltas, or as signals alone that deliver the same.
 pub fn scatter_phase<R: Threads + Sync, P: VertexProgram>(
     rt: &R,
     alloc: Global,
