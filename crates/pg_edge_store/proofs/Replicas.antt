@@ -90,10 +90,7 @@ none_around g s over v none dir = none_below (λ i. is_around v dir (edge_at g (
         let h = over.within i inside side in
         none (r, h, get_or_default s.vertices r v 0 h ∙ over.ends i inside side ∙ same))
 
--- one place more of a row, at a time
-pub taken_yes : (edges : List Edge) (r : ℕ) (dir : Dir) (i : ℕ) (others : List ℕ) → takes dir (side_of r (get_or edges i no_edge)) ≡ true → places_taken edges r dir (i ∷ others) ≡ i ∷ places_taken edges r dir others
-taken_yes edges r dir i others is = rw is refl
-
+-- one place of a row that isn't taken
 pub taken_no : (edges : List Edge) (r : ℕ) (dir : Dir) (i : ℕ) (others : List ℕ) → takes dir (side_of r (get_or edges i no_edge)) ≡ false → places_taken edges r dir (i ∷ others) ≡ places_taken edges r dir others
 taken_no edges r dir i others is = rw is refl
 
