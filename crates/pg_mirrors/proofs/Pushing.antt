@@ -39,28 +39,6 @@ set_one vertices values v place datum up count h is = record {
     first zero inside d i hi e = here i hi e
     first (suc k) inside d i hi e = absurd (omega arith)
 
--- a vertex that has none
-pub set_none : (vertices : List ℕ) (values : List Datum) (v : ℕ) (datum : Datum) → (Contains vertices v → ⊥) → Pushes (mirrors vertices values) (mirrors vertices values) ((v, datum) ∷ [])
-set_none vertices values v datum none = record {
-  vertices = refl;
-  count = refl;
-  listed = λ k d inside. first k inside d;
-  others = λ i hi apart. refl;
-}
-  where
-    first : (k : ℕ) → k < 1 → (d : ℕ × Datum) (i : ℕ) → i < length vertices → get_or vertices i 0 ≡ (get_or ((v, datum) ∷ []) k d).0 → datum_at values i ≡ (get_or ((v, datum) ∷ []) k d).1
-    first zero inside d i hi e = absurd (none (i, hi, get_or_default vertices i v 0 hi ∙ e))
-    first (suc k) inside d i hi e = absurd (omega arith)
-
--- nothing is pushed
-pub pushes_nothing : (table : Mirrors) → Pushes table table []
-pushes_nothing table = record {
-  vertices = refl;
-  count = refl;
-  listed = λ k d inside. absurd (omega arith);
-  others = λ i hi apart. refl;
-}
-
 -- one more is pushed
 pub pushes_more : (old between new : Mirrors) (masters : List (ℕ × Datum)) (v : ℕ) (datum : Datum) → All (λ master. master.0 ≢ v) masters → Pushes old between masters → Pushes between new ((v, datum) ∷ []) → Pushes old new (masters ++ (v, datum) ∷ [])
 pushes_more old between new masters v datum apart first second =
