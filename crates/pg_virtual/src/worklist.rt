@@ -2,6 +2,12 @@
 use crate::order::Order;
 use pg_graph::Graph;
 use std::alloc::{AllocError, Global};
+use std::collections::VecDeque;
+
+/// How many of those that have waited longest a draw chooses from. What waits together was
+/// signalled together, so the data that its attempts touch are near in memory, and a vertex has
+/// got most of its messages when its turn comes.
+const NEAR: usize = 256;
 
 /// Vertices that may be signalled, each once at most.
 ///
@@ -9,7 +15,7 @@ use std::alloc::{AllocError, Global};
 /// rests on it: a vertex that is missing is found as the signalled one of least rank.
 #[derive(Drop)]
 pub struct Worklist {
-    waiting: Vec<u32>,
+    waiting: VecDeque<u32>,
     listed: Vec<bool>,
 }
 
@@ -18,7 +24,7 @@ impl Worklist {
     pub fn new(alloc: Global, graph: &Graph) -> Result<Worklist, AllocError> {
         let count = graph.vertices() as usize;
         Ok(Worklist {
-            waiting: Vec::with_capacity(alloc, count)?,
+            waiting: VecDeque::with_capacity(alloc, count)?,
             listed: vec![in alloc; false; count]?,
         })
     }
@@ -46,17 +52,18 @@ impl Worklist {
             return Ok(());
         }
         self.listed[place] = true;
-        self.waiting.push(vertex)?;
+        self.waiting.push_back(vertex)?;
         Ok(())
     }
 
-    /// Takes out the vertex at a place that is drawn.
+    /// Takes out one of the vertices that have waited longest, which is drawn.
     pub fn take(&mut self, order: &mut Order) -> Option<u32> {
-        let count = self.waiting.len();
-        if count == 0 || count > u32::MAX as usize {
+        let near = self.waiting.len().min(NEAR);
+        if near == 0 {
             return None;
         }
-        let vertex = self.waiting.swap_remove(order.below(count as u32) as usize);
+        let drawn = order.below(near as u32) as usize;
+        let vertex = self.waiting.swap_remove_front(drawn)?;
         let place = vertex as usize;
         if place < self.listed.len() {
             self.listed[place] = false;
