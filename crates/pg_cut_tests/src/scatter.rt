@@ -12,12 +12,11 @@ use crate::samples::{cut_by, graph_of, path};
 use pg_apply_scatter::{
     Sent, apply_masters, deliver, push_mirrors, scatter_signals, scatter_worker,
 };
-use pg_base::Limits;
 use pg_cut::Cut;
 use pg_delta::CacheCell;
 use pg_edge_store::EdgeStore;
 use pg_gather::shares_are_readable;
-use pg_graph::{Graph, GraphBuilder};
+use pg_graph::Graph;
 use pg_law::{Datum, Delta, State};
 use pg_mirrors::MirrorTable;
 use pg_paths::Components;
@@ -52,6 +51,45 @@ fn assert_signalled(rt: &impl Abort, graph: &Graph, messages: &[Option<u64>], su
     }
 }
 
+/// A graph by its edges, with the worker of each, and the label and the carry of each vertex.
+#[derive(Clone, Copy)]
+struct Case<'a> {
+    edges: &'a [(u32, u32)],
+    workers: u8,
+    places: &'a [u8],
+    labels: &'a [u64],
+    carries: &'a [Option<bool>],
+}
+
+/// The path of four vertices after a round: the labels are 1, 1, 2 and 3.
+fn path_with<'a>(carries: &'a [Option<bool>]) -> Case<'a>
+    ensures { result.carries.now ≡ carries.now }
+{
+    Case {
+        edges: &[(1, 2), (2, 3), (3, 4)],
+        workers: 3,
+        places: &[0, 1, 2],
+        labels: &[1, 1, 2, 3],
+        carries,
+    }
+}
+
+/// What all workers of a case send, with their deltas, or signals alone.
+fn sent_in(
+    rt: &impl Abort,
+    alloc: Global,
+    case: Case<'_>,
+    with_deltas: bool,
+) -> Result<Vec<Vec<Sent<u64>>>, Fail>
+    ensures { IfOk result (λ sent.
+        All (All (IsSentIn components (length case.entry.carries.now))) (lists_in sent.items)) }
+{
+    let graph = graph_of(rt, alloc, case.edges)?;
+    let cut = cut_by(rt, alloc, &graph, case.workers, case.places)?;
+    let state = labelled(rt, alloc, &graph, case.labels)?;
+    sent_by_all(rt, alloc, &graph, &cut, &state, case.carries, with_deltas)
+}
+
 /// What all workers send over the data of a state.
 fn sent_by_all(
     rt: &impl Abort,
@@ -60,16 +98,17 @@ fn sent_by_all(
     cut: &Cut,
     state: &State,
     carries: &[Option<bool>],
+    with_deltas: bool,
 ) -> Result<Vec<Vec<Sent<u64>>>, Fail>
     requires cut { IsCutOf graph.now cut.now }
     requires fit { IsFit components graph.now state.now }
     ensures { IfOk result (λ sent.
-        All (All (IsSentIn components (length graph.now.ids))) (lists_in sent.items)) }
+        All (All (IsSentIn components (length carries.now))) (lists_in sent.items)) }
 {
     assert!(rt; carries.len() == graph.vertices() as usize);
     let mut sent = Vec::new(alloc);
     for worker in 0..cut.workers() {
-        sent.push(sent_by(alloc, graph, cut, worker, state, carries, true)?)?;
+        sent.push(sent_by(alloc, graph, cut, worker, state, carries, with_deltas)?)?;
     }
     Ok(sent)
 }
@@ -135,6 +174,34 @@ fn told(sent: &Sent<u64>) -> (u32, Option<u64>, Option<u64>) {
     (sent.to, sent.signal, added(&sent.delta))
 }
 
+/// Tests what is sent, in order.
+fn assert_told(rt: &impl Abort, sent: &[Sent<u64>], rows: &[(u32, Option<u64>, Option<u64>)]) {
+    assert_eq!(rt; sent.len(), rows.len());
+    for i in 0..rows.len() {
+        assert_eq!(rt; told(&sent[i]), rows[i]);
+    }
+}
+
+/// Tests the data of two replicas.
+fn assert_data(rt: &impl Abort, table: &MirrorTable, first: u64, second: u64) {
+    assert_eq!(rt; table.len(), 2);
+    assert_eq!(rt; table.datum(0), Datum::one(first));
+    assert_eq!(rt; table.datum(1), Datum::one(second));
+}
+
+/// The replicas of the path's workers, with its ids for data.
+fn path_tables(rt: &impl Abort, alloc: Global) -> Result<Vec<MirrorTable>, Fail> {
+    let graph = path(alloc)?;
+    let cut = cut_by(rt, alloc, &graph, 3, &[0, 1, 2])?;
+    let state = State::start(alloc, &Components, &graph)?;
+    let mut tables = Vec::with_capacity(alloc, 3)?;
+    for worker in 0..cut.workers() {
+        let values = state.values.as_slice();
+        tables.push(MirrorTable::of(alloc, &graph, &cut, worker, values)?)?;
+    }
+    Ok(tables)
+}
+
 // Vertex 2 comes before 0, and 0 keeps its label.
 #[test]
 fn masters_apply_in_order(rt: HostRuntime) -> Result<(), Fail> {
@@ -160,75 +227,62 @@ fn masters_apply_in_order(rt: HostRuntime) -> Result<(), Fail> {
 
 #[test]
 fn every_worker_is_pushed(rt: HostRuntime) -> Result<(), Fail> {
-    let alloc = rt.alloc();
-    let graph = path(alloc)?;
-    let cut = cut_by(&rt, alloc, &graph, 3, &[0, 1, 2])?;
-    let state = State::start(alloc, &Components, &graph)?;
-    let mut tables = Vec::with_capacity(alloc, 3)?;
-    for worker in 0..cut.workers() {
-        let values = state.values.as_slice();
-        tables.push(MirrorTable::of(alloc, &graph, &cut, worker, values)?)?;
-    }
+    let mut tables = path_tables(&rt, rt.alloc())?;
     push_mirrors(
         &[(1, Datum::one(7)), (2, Datum::one(8))],
         tables.as_mut_slice(),
     );
-    let rows = [[1, 7], [7, 8], [8, 4]];
-    assert_eq!(rt; tables.len(), rows.len());
-    for w in 0..rows.len() {
-        assert_eq!(rt; tables[w].len(), 2);
-        assert_eq!(rt; tables[w].datum(0), Datum::one(rows[w][0]));
-        assert_eq!(rt; tables[w].datum(1), Datum::one(rows[w][1]));
-    }
+    assert_eq!(rt; tables.len(), 3);
+    assert_data(&rt, &tables[0], 1, 7);
+    assert_data(&rt, &tables[1], 7, 8);
+    assert_data(&rt, &tables[2], 8, 4);
     Ok(())
 }
 
-// The first round made the labels 1, 1, 2 and 3, and the first vertex alone is as it was.
+// The first vertex alone is as it was.
 #[test]
 fn workers_send_over_their_own_edges(rt: HostRuntime) -> Result<(), Fail> {
-    let alloc = rt.alloc();
-    let graph = path(alloc)?;
-    let cut = cut_by(&rt, alloc, &graph, 3, &[0, 1, 2])?;
-    let state = labelled(&rt, alloc, &graph, &[1, 1, 2, 3])?;
-    let carries = [Some(false), Some(true), Some(true), None];
-    let sent = sent_by_all(&rt, alloc, &graph, &cut, &state, carries.as_slice())?;
-    let rows: [&[(u32, Option<u64>, Option<u64>)]; 3] = [
-        &[(1, None, None), (0, None, Some(1))],
-        &[(2, Some(1), Some(1)), (1, None, Some(2))],
-        &[(3, Some(2), Some(2))],
-    ];
-    assert_eq!(rt; sent.len(), rows.len());
-    for w in 0..rows.len() {
-        assert_eq!(rt; sent[w].len(), rows[w].len());
-        for i in 0..rows[w].len() {
-            assert_eq!(rt; told(&sent[w][i]), rows[w][i], "worker {w}");
-        }
-    }
+    let case = path_with(&[Some(false), Some(true), Some(true), None]);
+    let sent = sent_in(&rt, rt.alloc(), case, true)?;
+    assert_eq!(rt; sent.len(), 3);
+    let first = [(1, None, None), (0, None, Some(1))];
+    assert_told(&rt, sent[0].as_slice(), &first);
+    let second = [(2, Some(1), Some(1)), (1, None, Some(2))];
+    assert_told(&rt, sent[1].as_slice(), &second);
+    assert_told(&rt, sent[2].as_slice(), &[(3, Some(2), Some(2))]);
     Ok(())
 }
 
 // Of thirteen vertices the first two alone have carries; the edge between them is visited once.
 #[test]
 fn few_vertices_send_in_order(rt: HostRuntime) -> Result<(), Fail> {
-    let alloc = rt.alloc();
-    let mut builder = GraphBuilder::new(alloc, Limits::standard())?;
-    for id in 1..13 {
-        assert!(rt; builder.loops() < 9);
-        builder.edge(id, id + 1, 1)?;
-    }
-    let graph = builder.finish()?;
-    let cut = cut_by(&rt, alloc, &graph, 1, &[0; 12])?;
-    let state = State::start(alloc, &Components, &graph)?;
     let mut carries = [None; 13];
     carries[0] = Some(true);
     carries[1] = Some(false);
-    let sent = sent_by_all(&rt, alloc, &graph, &cut, &state, carries.as_slice())?;
-    let rows = [(1, Some(1), Some(1)), (0, None, None), (2, Some(2), None)];
+    let case = Case {
+        edges: &[
+            (1, 2),
+            (2, 3),
+            (3, 4),
+            (4, 5),
+            (5, 6),
+            (6, 7),
+            (7, 8),
+            (8, 9),
+            (9, 10),
+            (10, 11),
+            (11, 12),
+            (12, 13),
+        ],
+        workers: 1,
+        places: &[0; 12],
+        labels: &[1, 2, 3, 4, 5, 6, 7, 8, 9, 10, 11, 12, 13],
+        carries: &carries,
+    };
+    let sent = sent_in(&rt, rt.alloc(), case, true)?;
     assert_eq!(rt; sent.len(), 1);
-    assert_eq!(rt; sent[0].len(), rows.len());
-    for i in 0..rows.len() {
-        assert_eq!(rt; told(&sent[0][i]), rows[i]);
-    }
+    let rows = [(1, Some(1), Some(1)), (0, None, None), (2, Some(2), None)];
+    assert_told(&rt, sent[0].as_slice(), &rows);
     Ok(())
 }
 
@@ -236,18 +290,19 @@ fn few_vertices_send_in_order(rt: HostRuntime) -> Result<(), Fail> {
 #[test]
 fn a_worker_combines_its_signals(rt: HostRuntime) -> Result<(), Fail> {
     let alloc = rt.alloc();
-    let graph = graph_of(&rt, alloc, &[(1, 3), (2, 3)])?;
-    assert!(rt; graph.vertices() == 3);
-    let cut = cut_by(&rt, alloc, &graph, 1, &[0, 0])?;
-    assert!(rt; cut.workers() == 1);
-    let state = labelled(&rt, alloc, &graph, &[4, 2, 9])?;
-    let carries = [Some(true), Some(true), None];
-    let sent = sent_by_all(&rt, alloc, &graph, &cut, &state, carries.as_slice())?;
-    assert_eq!(rt; sent.len(), 1);
-    assert_eq!(rt; sent[0].len(), 2);
-    let signals = sent_by(alloc, &graph, &cut, 0, &state, carries.as_slice(), false)?;
-    assert_eq!(rt; signals.len(), 1);
-    assert_eq!(rt; told(&signals[0]), (2, Some(2), None));
+    let case = Case {
+        edges: &[(1, 3), (2, 3)],
+        workers: 1,
+        places: &[0, 0],
+        labels: &[4, 2, 9],
+        carries: &[Some(true), Some(true), None],
+    };
+    let apart = sent_in(&rt, alloc, case, true)?;
+    assert_eq!(rt; apart.len(), 1);
+    assert_eq!(rt; apart[0].len(), 2);
+    let combined = sent_in(&rt, alloc, case, false)?;
+    assert_eq!(rt; combined.len(), 1);
+    assert_told(&rt, combined[0].as_slice(), &[(2, Some(2), None)]);
     Ok(())
 }
 
@@ -255,23 +310,23 @@ fn a_worker_combines_its_signals(rt: HostRuntime) -> Result<(), Fail> {
 #[test]
 fn a_round_is_delivered(rt: HostRuntime) -> Result<(), Fail> {
     let alloc = rt.alloc();
-    let graph = path(alloc)?;
-    let cut = cut_by(&rt, alloc, &graph, 3, &[0, 1, 2])?;
-    let state = labelled(&rt, alloc, &graph, &[1, 1, 2, 3])?;
-    let carries = [Some(false), Some(true), Some(true), Some(true)];
-    let sent = sent_by_all(&rt, alloc, &graph, &cut, &state, carries.as_slice())?;
+    let case = path_with(&[Some(false), Some(true), Some(true), Some(true)]);
+    let sent = sent_in(&rt, alloc, case, true)?;
     let mut messages = [None, None, None, None];
-    assert!(rt; messages.len() == graph.vertices() as usize);
     let mut cells = [kept(2), kept(1), kept(2), kept(3)];
     deliver(alloc, &Components, sent, &mut messages, &mut cells)?;
     assert_eq!(rt; messages, [None, None, Some(1), Some(2)]);
-    let rows = [(2, 1), (1, 2), (2, 1), (3, 2)];
-    for v in 0..rows.len() {
-        let (acc, pending) = rows[v];
-        assert_eq!(rt; cells[v].acc, Some(acc), "{v}");
-        assert_eq!(rt; added(&cells[v].pending), Some(pending), "{v}");
-    }
+    assert_cell(&rt, &cells[0], 2, 1);
+    assert_cell(&rt, &cells[1], 1, 2);
+    assert_cell(&rt, &cells[2], 2, 1);
+    assert_cell(&rt, &cells[3], 3, 2);
     Ok(())
+}
+
+/// Tests the gather that is kept, and the delta that waits.
+fn assert_cell(rt: &impl Abort, cell: &CacheCell<u64>, acc: u64, pending: u64) {
+    assert_eq!(rt; cell.acc, Some(acc));
+    assert_eq!(rt; added(&cell.pending), Some(pending));
 }
 
 fn kept(acc: u64) -> CacheCell<u64> {

@@ -4,6 +4,7 @@
 mod around;
 mod between;
 mod laws;
+mod own_words;
 mod store;
 
 pub use around::Around;

@@ -8,8 +8,10 @@ ghost use Rattle.pg_edge_store.specs.Store.{places_around};
 
 use crate::around::Around;
 use crate::between::{edges_between, rows_of};
+use crate::own_words::OwnWords;
 use pg_cut::{Cut, Keys};
 use pg_graph::{Dir, Edge, Graph, Rows};
+use pg_law::EdgeWords;
 use std::alloc::{AllocError, Global};
 use std::marker::Model;
 
@@ -22,7 +24,7 @@ use std::marker::Model;
 #[derive(Drop)]
 pub struct EdgeStore {
     numbers: Vec<u32>,
-    words: Vec<u64>,
+    words: OwnWords,
     vertices: Keys,
     edges: Vec<Edge>,
     rows: Rows,
@@ -33,22 +35,10 @@ impl Model for EdgeStore {
 
     ghost Value = { Store };
 
-    ghost view = { λ s. store s.numbers.items s.words.items s.vertices s.edges.items s.rows };
+    ghost view = { λ s. store s.numbers.items s.words s.vertices s.edges.items s.rows };
 
     ghost invariant = { λ s.
-        IsKept (store s.numbers.items s.words.items s.vertices s.edges.items s.rows) };
-}
-
-/// The words of these edges.
-fn words_at(alloc: Global, numbers: &[u32], words: &[u64]) -> Result<Vec<u64>, AllocError>
-    requires { All (λ e. e < length words.now) numbers.now }
-    ensures { IfOk result (λ own. own.items ≡ map (slice_index words.now) numbers.now) }
-{
-    let mut own = Vec::with_capacity(alloc, numbers.len())?;
-    for e in numbers {
-        own.push(words[*e as usize])?;
-    }
-    Ok(own)
+        IsKept (store s.numbers.items s.words s.vertices s.edges.items s.rows) };
 }
 
 impl EdgeStore {
@@ -67,10 +57,29 @@ impl EdgeStore {
         ensures words { IfOk result (λ s. s.words ≡ map (slice_index words.now) s.numbers) }
         ensures weights { IfOk result (HasWeights graph.now) }
     {
+        let words = EdgeWords::from(Vec::from_slice(alloc, words)?);
+        EdgeStore::with_words(alloc, graph, cut, worker, &words)
+    }
+
+    /// The same, with the words that rounds begin with.
+    pub fn with_words(
+        alloc: Global,
+        graph: &Graph,
+        cut: &Cut,
+        worker: u8,
+        words: &EdgeWords,
+    ) -> Result<EdgeStore, AllocError>
+        requires cut { IsCutOf graph.now cut.now }
+        requires worker { worker < cut.now.workers }
+        requires words { length words.now ≡ length graph.now.edges }
+        ensures store { IfOk result (IsStoreOf graph.now cut.now worker) }
+        ensures words { IfOk result (λ s. s.words ≡ map (slice_index words.now) s.numbers) }
+        ensures weights { IfOk result (HasWeights graph.now) }
+    {
         let _ = graph.vertices();
         let numbers = Vec::from_slice(alloc, cut.edges_on(worker))?;
         let vertices = cut.vertices_on(worker);
-        let own = words_at(alloc, numbers.as_slice(), words)?;
+        let own = OwnWords::of(alloc, numbers.as_slice(), words)?;
         let edges = edges_between(alloc, graph, numbers.as_slice(), vertices)?;
         let rows = rows_of(alloc, vertices, edges.as_slice())?;
         let vertices = Keys::of(alloc, Vec::from_slice(alloc, vertices)?)?;
@@ -111,7 +120,7 @@ impl EdgeStore {
         requires { i < length self.now.numbers }
         ensures { result ≡ slice_index self.now.words i }
     {
-        self.words[i as usize]
+        self.words.word(i)
     }
 
     /// Gives the edge at a place another word.
@@ -119,7 +128,7 @@ impl EdgeStore {
         requires { i < length self.old.numbers }
         ensures { self.new ≡ record self.old { words = slice_set self.old.words i word } }
     {
-        self.words[i as usize] = word;
+        self.words.set(i, word);
     }
 
     /// How many vertices have a replica on the worker.

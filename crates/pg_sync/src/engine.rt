@@ -15,7 +15,7 @@ use crate::worker::Seat;
 use pg_base::Gate;
 use pg_cut::Cut;
 use pg_graph::Graph;
-use pg_law::{EdgeWords, End, State, Steps, VertexProgram};
+use pg_law::{End, State, Steps, VertexProgram};
 use std::alloc::{AllocError, Global};
 use std::sync::ledger::Ledger;
 use std::thread::Threads;
@@ -55,8 +55,8 @@ fn run_seated<R: Threads + Sync, P: VertexProgram, G: Gate, L: Ledger + Send>(
     ensures present { All (λ seat. IsSome seat.0) seats.new }
 {
     let _ = graph.vertices();
-    let mut words = state.edges.to_vec(alloc)?;
-    let mut workers = workers_of(rt, alloc, graph, cut, words.as_slice())?;
+    let mut words = state.edges;
+    let mut workers = workers_of(rt, alloc, graph, cut, &words)?;
     let mut mirrors = replicas_of(rt, alloc, graph, cut, state.values.as_slice())?;
     let mut masters = Masters::of(alloc, state.values, state.messages)?;
     let parts = workers.as_mut_slice();
@@ -75,11 +75,11 @@ fn run_seated<R: Threads + Sync, P: VertexProgram, G: Gate, L: Ledger + Send>(
         limit,
         gate,
     )?;
-    put_words(graph, cut, workers.as_slice(), words.as_mut_slice());
+    put_words(graph, cut, workers.as_slice(), &mut words)?;
     Ok(SyncEnd {
         state: State {
             values: masters.values,
-            edges: EdgeWords::from(words),
+            edges: words,
             messages: masters.messages,
         },
         rounds: ran.rounds,

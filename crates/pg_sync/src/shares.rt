@@ -10,7 +10,7 @@ use crate::worker::Scattering;
 use pg_cut::Cut;
 use pg_edge_store::EdgeStore;
 use pg_graph::Graph;
-use pg_law::Datum;
+use pg_law::{Datum, EdgeWords};
 use pg_mirrors::MirrorTable;
 use std::alloc::{AllocError, Global};
 use std::thread;
@@ -22,7 +22,7 @@ fn stores_of<R: Threads + Sync>(
     alloc: Global,
     graph: &Graph,
     cut: &Cut,
-    words: &[u64],
+    words: &EdgeWords,
 ) -> Result<Vec<Result<EdgeStore, AllocError>>, AllocError>
     requires cut { IsCutOf graph.now cut.now }
     requires words { length words.now ≡ length graph.now.edges }
@@ -40,7 +40,7 @@ fn stores_of<R: Threads + Sync>(
             requires { (w < 64) × (w < cut.now.workers) × (IsCutOf graph.now cut.now) ×
                 (length words.now ≡ length graph.now.edges) }
             ensures { IfOk result (IsMade graph.entry.now cut.entry.now words.entry.now w) }
-        { EdgeStore::of(alloc, graph, cut, w as u8, words) },
+        { EdgeStore::with_words(alloc, graph, cut, w as u8, words) },
     )
 }
 
@@ -50,7 +50,7 @@ pub fn workers_of<R: Threads + Sync, A: Drop>(
     alloc: Global,
     graph: &Graph,
     cut: &Cut,
-    words: &[u64],
+    words: &EdgeWords,
 ) -> Result<Vec<Scattering<A>>, AllocError>
     requires cut { IsCutOf graph.now cut.now }
     requires words { length words.now ≡ length graph.now.edges }

@@ -14,7 +14,7 @@ invariant_of-t-9 c = rw (c.row.ensures, c.as_slice-edges.ensures.value) (row_wit
 pub returns-in-Some : goal.returns-in-Some
 returns-in-Some c = λ g over.
     let inside = c.self.inside in
-    let s = store inside.numbers.items inside.words.items inside.vertices inside.edges.items inside.rows in
+    let s = store inside.numbers.items inside.words inside.vertices inside.edges.items inside.rows in
     let r = c.in-Some.replica in
     let dir = c.args.dir in
     ap (λ edges. places_taken edges r dir c.row.result.now) c.as_slice-edges.ensures.value

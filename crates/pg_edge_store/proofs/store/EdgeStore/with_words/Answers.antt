@@ -5,10 +5,10 @@ use Rattle.std.proofs.lemmas.List.{length-map}
 use Rattle.pg_graph.specs.Multigraph.{edges_around}
 use Rattle.pg_cut.proofs.Replicas.{vertices_rise, vertices_inside, vertices_fewer}
 use Rattle.pg_edge_store.proofs.Standing.{numbers_inside, numbers_fewer, ends_inside, graph_on}
-use Rattle.pg_edge_store.proofs.store.EdgeStore.of.Goals as goal
+use Rattle.pg_edge_store.proofs.store.EdgeStore.with_words.Goals as goal
 
-pub words_at-requires : goal.words_at-requires
-words_at-requires c = rw (c.as_slice.ensures.value ∙ c.in_ok-numbers.ensures.items ∙ c.edges_on.ensures, c.requires.words, sym c.requires.cut.placed.count)
+pub of-requires : goal.of-requires
+of-requires c = rw (c.as_slice.ensures.value ∙ c.in_ok-numbers.ensures.items ∙ c.edges_on.ensures, c.requires.words, sym c.requires.cut.placed.count)
     (numbers_inside c.args.cut.now.place c.args.worker)
 
 pub edges_between-requires-clause-numbers : goal.edges_between-requires-clause-numbers
@@ -34,11 +34,11 @@ rows_of-requires c = rw c.as_slice-3.ensures.value
     (graph_on c.args.graph.now c.vertices.ensures.graph c.args.cut.now c.args.worker c.requires.cut c.as_slice-2.result.now c.vertices_on-vertices.result.now c.in_ok-edges.edges.items
     (c.as_slice-2.ensures.value ∙ c.in_ok-numbers.ensures.items ∙ c.edges_on.ensures) c.vertices_on-vertices.ensures c.in_ok-edges.ensures)
 
-pub of-requires-clause-ascending : goal.of-requires-clause-ascending
-of-requires-clause-ascending c = rw (c.in_ok-from_slice.ensures.items ∙ c.vertices_on-vertices.ensures) (vertices_rise c.args.cut.now c.args.worker)
+pub of-requires-2-clause-ascending : goal.of-requires-2-clause-ascending
+of-requires-2-clause-ascending c = rw (c.in_ok-from_slice.ensures.items ∙ c.vertices_on-vertices.ensures) (vertices_rise c.args.cut.now c.args.worker)
 
-pub of-requires-clause-few : goal.of-requires-clause-few
-of-requires-clause-few c =
+pub of-requires-2-clause-few : goal.of-requires-2-clause-few
+of-requires-2-clause-few c =
     omega (arith, ap length (c.in_ok-from_slice.ensures.items ∙ c.vertices_on-vertices.ensures), vertices_fewer c.args.cut.now c.args.worker, c.requires.cut.count, c.vertices.ensures.graph.vertex_count)
 
 pub invariant_of-result : goal.invariant_of-result
