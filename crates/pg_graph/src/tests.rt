@@ -33,12 +33,8 @@ fn sample(rt: &impl Abort, alloc: Global) -> Result<Graph, Fail> {
     Ok(builder.finish()?)
 }
 
-#[test]
-fn vertices_are_numbered_by_id_and_edges_as_they_came(rt: HostRuntime) -> Result<(), Fail> {
-    let graph = sample(&rt, rt.alloc())?;
-    assert_eq!(rt; graph.vertices(), 4);
-    assert_eq!(rt; graph.loops(), 1);
-    let edges = [(3, 1, 5), (1, 2, 1), (3, 1, 7), (3, 2, 2)];
+/// Compares all edges with these, where `(src, dst, weight)` stands for one.
+fn compare_edges(rt: &impl Abort, graph: &Graph, edges: &[(u32, u32, u32)]) {
     assert_eq!(rt; graph.edges().len(), edges.len());
     for (e, (src, dst, weight)) in edges.iter().enumerate() {
         let want = Edge {
@@ -48,6 +44,14 @@ fn vertices_are_numbered_by_id_and_edges_as_they_came(rt: HostRuntime) -> Result
         };
         assert_eq!(rt; graph.edges().get(e), Some(&want), "edge {e}");
     }
+}
+
+#[test]
+fn vertices_are_numbered_by_id_and_edges_as_they_came(rt: HostRuntime) -> Result<(), Fail> {
+    let graph = sample(&rt, rt.alloc())?;
+    assert_eq!(rt; graph.vertices(), 4);
+    assert_eq!(rt; graph.loops(), 1);
+    compare_edges(&rt, &graph, &[(3, 1, 5), (1, 2, 1), (3, 1, 7), (3, 2, 2)]);
     let numbers = [(5, Some(0)), (30, Some(3)), (20, Some(2)), (7, None)];
     for (id, number) in numbers {
         assert_eq!(rt; graph.number_of(id), number, "id {id}");
@@ -78,6 +82,21 @@ fn each_vertex_has_its_degrees_and_edges(rt: HostRuntime) -> Result<(), Fail> {
     assert_eq!(rt; graph.edges().len(), 4);
     let edge = graph.edge_info(2);
     assert_eq!(rt; (edge.src.id, edge.dst.id, edge.weight), (30, 10, 7));
+    Ok(())
+}
+
+#[test]
+fn ids_far_apart_are_numbered_in_order(rt: HostRuntime) -> Result<(), Fail> {
+    let mut builder = GraphBuilder::new(rt.alloc(), Limits::standard())?;
+    let edges = [
+        (4_294_967_295, 9_000, 1),
+        (7, 4_294_967_295, 1),
+        (3_000_000, 7, 1),
+        (9_000, 3_000_000, 1),
+    ];
+    add(&rt, &mut builder, &edges)?;
+    let graph = builder.finish()?;
+    compare_edges(&rt, &graph, &[(3, 1, 1), (0, 3, 1), (2, 0, 1), (1, 2, 1)]);
     Ok(())
 }
 

@@ -1,6 +1,6 @@
 use Rattle.std.proofs.Common.{◌≡◌, ◌∙◌, ap, arith}
 use Rattle.pg_graph.specs.Building.{with_id}
-use Rattle.pg_graph.proofs.Placed.{kept_with, viewed_with, with_within}
+use Rattle.pg_graph.proofs.Placed.{built_with, with_within}
 use Rattle.pg_graph.proofs.builder.GraphBuilder.vertex.Goals as goal
 
 keys_are : (c : goal.After-add) → c.add.new.self.keys ≡ with_id c.self.inside.ids.keys c.args.id
@@ -8,7 +8,4 @@ keys_are c = c.add.ensures.keys ∙ ap (λ ids. with_id ids c.args.id) c.reserve
 
 pub invariant_of-self-2 : goal.invariant_of-self-2
 invariant_of-self-2 c = rw (keys_are c)
-    (kept_with c.self.inside.limits c.self.inside.ids.keys c.args.id c.self.inside.edges.items c.self.inside.loops c.self.invariant c.ranges.id.fits (with_within c.self.inside.ids.keys c.args.id c.self.inside.limits.vertices (omega arith)))
-
-pub returns-clause-ok : goal.returns-clause-ok
-returns-clause-ok c = rw (← c.self.view_is) (viewed_with c.self.inside.limits c.self.inside.ids.keys c.add.new.self.keys c.args.id c.self.inside.edges.items c.self.inside.loops (keys_are c) c.self.invariant.placed)
+    (built_with c.self.inside.limits c.self.inside.ids.keys c.args.id c.self.inside.edges.items c.self.inside.loops c.self.invariant c.ranges.id.fits (with_within c.self.inside.ids.keys c.args.id c.self.inside.limits.vertices (omega arith)))
