@@ -5,12 +5,14 @@ ghost use Rattle.std.specs.Prelude.{if◌then◌else◌};
 ghost use Rattle.pg_law.specs.Configuration.{Configuration, IsFit, is_signalled, message_in};
 ghost use Rattle.pg_law.specs.Round.{outcome, execution};
 ghost use Rattle.pg_serial.specs.Journals.{gather_degree};
-ghost use Rattle.pg_serial.specs.Sending.{sents_around, IsAddressed, reaches};
+ghost use Rattle.pg_serial.specs.Sending.{sents_around, AreEndSums, IsAddressed, reaches};
 
+use crate::end_sums::EndSums;
+use crate::gather::turn_of;
 use crate::scatter::{Sent, deliver, scatter_around};
 use crate::writing::write_words;
 use pg_graph::Graph;
-use pg_law::{Applied, State, Steps, VertexProgram, laws_of, take_turn};
+use pg_law::{Applied, State, Steps, VertexProgram, laws_of};
 use std::alloc::{AllocError, Global};
 use std::sync::ledger::Ledger;
 
@@ -48,6 +50,65 @@ fn commit<P: VertexProgram>(
 
 /// Executes `u`, which has this message, and answers over how many edges it gathered.
 ///
+/// It touches `u` and its edges alone, whose other ends the sums tell. All memory is taken before
+/// the first write, and `sents` is left with what was sent.
+pub fn execute_by_sums<P: VertexProgram, L: Ledger>(
+    alloc: Global,
+    program: &P,
+    graph: &Graph,
+    sums: &EndSums,
+    state: &mut State,
+    u: u32,
+    message: u64,
+    sents: &mut Vec<Sent>,
+    steps: &mut Steps<L>,
+) -> Result<u64, AllocError>
+    requires fit { IsFit (P.meaning program.now) graph.now state.old }
+    requires sums { AreEndSums graph.now sums.now }
+    requires u { u < length graph.now.ids }
+    requires message { message_in state.old.messages u ≡ Some message }
+    ensures state { let p = P.meaning program.now in
+        OnOk result (state.new ≡ execution p graph.now state.old u) }
+    ensures gathers { IfOk result (λ gathers.
+        gathers ≡ gather_degree (P.meaning program.now) graph.now u) }
+    ensures few { IfOk result (λ gathers. gathers ≤ 2 ^ 24) }
+    ensures counted { IfOk result (λ gathers. steps.new ≡ steps.old + gathers) }
+    ensures own { OnOk result (All (IsAddressed (P.meaning program.now)
+        (length graph.now.edges) (length graph.now.ids)) sents.new.items) }
+    ensures signals { OnOk result ((v : ℕ) → is_signalled state.new v ≡
+        ((if v == u then is_signalled state.new u else is_signalled state.old v)
+        || reaches v sents.new.items)) }
+    ensures fit { IsFit (P.meaning program.now) graph.now state.new }
+    ensures err { OnErr result (state.new ≡ state.old) }
+{
+    laws_of(program);
+    let _ = graph.vertices();
+    let turn = turn_of(alloc, program, graph, sums, state, u, message, steps)?;
+    scatter_around(
+        alloc,
+        program,
+        graph,
+        sums,
+        state.values.as_slice(),
+        &state.edges,
+        u,
+        turn.applied,
+        sents,
+    )?;
+    commit(
+        alloc,
+        program,
+        graph,
+        state,
+        u,
+        turn.applied,
+        sents.as_slice(),
+    )?;
+    Ok(turn.gathers)
+}
+
+/// Executes `u`, which has this message, and answers over how many edges it gathered.
+///
 /// It touches `u` and its edges alone. All memory is taken before the first write, and `sents` is
 /// left with what was sent.
 pub fn execute_signalled<P: VertexProgram, L: Ledger>(
@@ -77,29 +138,10 @@ pub fn execute_signalled<P: VertexProgram, L: Ledger>(
     ensures fit { IsFit (P.meaning program.now) graph.now state.new }
     ensures err { OnErr result (state.new ≡ state.old) }
 {
-    laws_of(program);
-    let _ = graph.vertices();
-    let turn = take_turn(alloc, program, graph, state, u, message, steps)?;
-    scatter_around(
-        alloc,
-        program,
-        graph,
-        state.values.as_slice(),
-        &state.edges,
-        u,
-        turn.applied,
-        sents,
-    )?;
-    commit(
-        alloc,
-        program,
-        graph,
-        state,
-        u,
-        turn.applied,
-        sents.as_slice(),
-    )?;
-    Ok(turn.gathers)
+    let sums = EndSums::none(alloc);
+    execute_by_sums(
+        alloc, program, graph, &sums, state, u, message, sents, steps,
+    )
 }
 
 /// The same for any vertex. It is false where `u` isn't signalled. The caller keeps `sents` for the
@@ -108,12 +150,14 @@ pub fn execute_with<P: VertexProgram, L: Ledger>(
     alloc: Global,
     program: &P,
     graph: &Graph,
+    sums: &EndSums,
     state: &mut State,
     u: u32,
     sents: &mut Vec<Sent>,
     steps: &mut Steps<L>,
 ) -> Result<bool, AllocError>
     requires fit { IsFit (P.meaning program.now) graph.now state.old }
+    requires sums { AreEndSums graph.now sums.now }
     requires u { u < length graph.now.ids }
     ensures signalled { IfOk result (λ executed. executed ≡ is_signalled state.old u) }
     ensures state { OnOk result (state.new ≡ (if is_signalled state.old u
@@ -126,7 +170,7 @@ pub fn execute_with<P: VertexProgram, L: Ledger>(
     match state.messages[u as usize] {
         None => Ok(false),
         Some(message) => {
-            execute_signalled(alloc, program, graph, state, u, message, sents, steps)?;
+            execute_by_sums(alloc, program, graph, sums, state, u, message, sents, steps)?;
             Ok(true)
         }
     }
@@ -155,6 +199,7 @@ pub fn execute<P: VertexProgram, L: Ledger>(
     ensures fit { IsFit (P.meaning program.now) graph.now state.new }
     ensures err { OnErr result (state.new ≡ state.old) }
 {
+    let sums = EndSums::none(alloc);
     let mut sents = Vec::new(alloc);
-    execute_with(alloc, program, graph, state, u, &mut sents, steps)
+    execute_with(alloc, program, graph, &sums, state, u, &mut sents, steps)
 }

@@ -3,6 +3,7 @@ ghost use Rattle.std.specs.Prelude.{◌≡◌, ◌+◌, IfOk};
 ghost use Rattle.pg_law.specs.Configuration.{Configuration, IsFit};
 ghost use Rattle.pg_serial.specs.Journals.{IsReplayed, IsReplayFit, executed_by, gathers_over};
 
+use crate::end_sums::EndSums;
 use crate::execution::execute_with;
 use pg_graph::Graph;
 use pg_law::{Datum, JournalEntry, State, Steps, VertexProgram};
@@ -36,6 +37,7 @@ pub fn replay<P: VertexProgram, L: Ledger>(
     ensures fit { IfOk result (IsReplayFit (P.meaning program.now) graph.now) }
 {
     let mut state = state;
+    let sums = EndSums::of(alloc, graph)?;
     let mut sents = Vec::new(alloc);
     for at in 0..journal.len() {
         let entry = journal[at];
@@ -46,6 +48,7 @@ pub fn replay<P: VertexProgram, L: Ledger>(
             alloc,
             program,
             graph,
+            &sums,
             &mut state,
             entry.vertex,
             &mut sents,

@@ -5,11 +5,14 @@ ghost use Rattle.pg_law.specs.Laws.{IsApplied, IsNear, IsOptional};
 ghost use Rattle.pg_law.specs.Configuration.{AreData, AreWords, message_in};
 ghost use Rattle.pg_law.specs.Round.{join as joined};
 ghost use Rattle.pg_serial.specs.Sending.{near_after, sent_over, sents_around, is_news};
-ghost use Rattle.pg_serial.specs.Sending.{IsAddressed};
+ghost use Rattle.pg_graph.specs.Multigraph.{is_at, edge_at};
+ghost use Rattle.pg_serial.specs.Sending.{AreEndSums, IsAddressed};
 ghost use Rattle.pg_serial.specs.Sending.{message_with};
 
+use crate::end_sums::EndSums;
+use crate::gather::near_at;
 use pg_graph::Graph;
-use pg_law::{Applied, Datum, EdgeWords, Near, VertexProgram, laws_of, near_edge};
+use pg_law::{Applied, Datum, EdgeWords, Near, VertexProgram, laws_of};
 use std::alloc::{AllocError, Global};
 
 /// What an execution leaves at one edge: its new word, and a signal for the vertex at the
@@ -26,6 +29,7 @@ pub struct Sent {
 fn near_with<P: VertexProgram>(
     program: &P,
     graph: &Graph,
+    sums: &EndSums,
     values: &[Datum],
     u: u32,
     e: u32,
@@ -33,14 +37,15 @@ fn near_with<P: VertexProgram>(
     datum: Datum,
 ) -> Near
     requires values { AreData (P.meaning program.now) graph.now values.now }
+    requires sums { AreEndSums graph.now sums.now }
     requires e { e < length graph.now.edges }
+    requires at { is_at u (edge_at graph.now e) ≡ true }
     requires word { (P.meaning program.now).IsWord word }
     requires datum { (P.meaning program.now).IsDatum datum }
     ensures value { result ≡ near_after graph.now values.now u e word datum }
     ensures near { IsNear (P.meaning program.now) result }
 {
-    let side = graph.edges()[e as usize].side(u);
-    let near = near_edge(program, graph, values, side, e, word);
+    let near = near_at(program, graph, sums, values, u, e, word);
     Near {
         side: near.side,
         edge: near.edge,
@@ -55,6 +60,7 @@ fn scatter_over<P: VertexProgram>(
     alloc: Global,
     program: &P,
     graph: &Graph,
+    sums: &EndSums,
     values: &[Datum],
     words: &EdgeWords,
     u: u32,
@@ -63,18 +69,19 @@ fn scatter_over<P: VertexProgram>(
 ) -> Result<Sent, AllocError>
     requires values { AreData (P.meaning program.now) graph.now values.now }
     requires words { AreWords (P.meaning program.now) graph.now words.now }
+    requires sums { AreEndSums graph.now sums.now }
     requires applied { IsApplied (P.meaning program.now) applied }
     requires e { e < length graph.now.edges }
+    requires at { is_at u (edge_at graph.now e) ≡ true }
     ensures value { IfOk result (λ sent.
         sent ≡ sent_over (P.meaning program.now) graph.now values.now words.now u applied e) }
     ensures own { IfOk result
         (IsAddressed (P.meaning program.now) (length graph.now.edges) (length graph.now.ids)) }
 {
     laws_of(program);
-    let edge = graph.edges()[e as usize];
-    let side = edge.side(u);
+    let side = graph.edges()[e as usize].side(u);
     let word = words.word(e);
-    let to = edge.end(side.opposite());
+    let to = sums.other(graph, u, e);
     if !program.scatter_edges().takes(side) {
         return Ok(Sent {
             edge: e,
@@ -83,7 +90,7 @@ fn scatter_over<P: VertexProgram>(
             signal: None,
         });
     }
-    let near = near_with(program, graph, values, u, e, word, applied.datum);
+    let near = near_with(program, graph, sums, values, u, e, word, applied.datum);
     let scattered = program.scatter(alloc, near, applied.carry)?;
     Ok(Sent {
         edge: e,
@@ -109,6 +116,7 @@ pub fn scatter_around<P: VertexProgram>(
     alloc: Global,
     program: &P,
     graph: &Graph,
+    sums: &EndSums,
     values: &[Datum],
     words: &EdgeWords,
     u: u32,
@@ -117,6 +125,7 @@ pub fn scatter_around<P: VertexProgram>(
 ) -> Result<(), AllocError>
     requires values { AreData (P.meaning program.now) graph.now values.now }
     requires words { AreWords (P.meaning program.now) graph.now words.now }
+    requires sums { AreEndSums graph.now sums.now }
     requires u { u < length graph.now.ids }
     requires applied { IsApplied (P.meaning program.now) applied }
     ensures value { OnOk result (sents.new.items ≡
@@ -126,7 +135,7 @@ pub fn scatter_around<P: VertexProgram>(
 {
     sents.clear();
     for e in graph.edges_of(u) {
-        let sent = scatter_over(alloc, program, graph, values, words, u, applied, *e)?;
+        let sent = scatter_over(alloc, program, graph, sums, values, words, u, applied, *e)?;
         note(sents, words.word(*e), sent)?;
     }
     Ok(())

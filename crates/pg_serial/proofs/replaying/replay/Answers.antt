@@ -22,9 +22,9 @@ loop-at-preserved g c = let p = g.P.VertexProgram.meaning c.args.program.now in
     let signalled : is_signalled before entry.vertex ≡ true = sym c.in_ok-executed.ensures.signalled ∙ c.if-not-executed.false in
     let executed : c.execute_with.new.state ≡ execution p graph before entry.vertex = c.in_ok-executed.ensures.state ∙ cond-true (is_signalled before entry.vertex) _ _ signalled in
     let same : c.index.result.now ≡ entry.datum = search rules in
-    let as_many = ap (λ (s : Configuration). length s.values) c.state-in-loop-at.view_is ∙ c.in_ok-executed.ensures.fit.values.count in
-    let read : c.index.result.now ≡ datum_in c.state-in-loop-at.inside.values.items entry.vertex = get_or_read c.state-in-loop-at.inside.values.items entry.vertex c.index.result.now (omega (arith, as_many)) c.index.ensures (one 0) in
-    let given : datum_given p graph before entry.vertex ≡ entry.datum = ap (λ (s : Configuration). datum_in s.values entry.vertex) (sym executed ∙ sym c.state-in-loop-at.view_is) ∙ sym read ∙ same in
+    let as_many = ap (λ (s : Configuration). length s.values) c.state-in-loop-at-2.view_is ∙ c.in_ok-executed.ensures.fit.values.count in
+    let read : c.index.result.now ≡ datum_in c.state-in-loop-at-2.inside.values.items entry.vertex = get_or_read c.state-in-loop-at-2.inside.values.items entry.vertex c.index.result.now (omega (arith, as_many)) c.index.ensures (one 0) in
+    let given : datum_given p graph before entry.vertex ≡ entry.datum = ap (λ (s : Configuration). datum_in s.values entry.vertex) (sym executed ∙ sym c.state-in-loop-at-2.view_is) ∙ sym read ∙ same in
     let is_before = c.loop-at.invariant.state in
     record {
       fit = c.in_ok-executed.ensures.fit;
