@@ -9,12 +9,11 @@ use Rattle.std.proofs.lemmas.List.FromFn.{length-range_with_len}
 use Rattle.pg_graph.specs.declared.edge.Edge.{Edge}
 use Rattle.pg_graph.specs.declared.edge.Side.{Side}
 use Rattle.pg_graph.specs.declared.edge.Side.TheVariants.{Source, Target}
-use Rattle.pg_graph.specs.Building.{renumbered}
 use Rattle.pg_graph.specs.Multigraph.{Multigraph, IsMultigraph, multigraph, edge_at, end_at, end_of, no_edge}
 use Rattle.pg_graph.proofs.Numbers.{filter_numbers_each, length_filter_within}
 use Rattle.pg_cut.specs.Cut.{Division, IsCutOf, edges_on, vertices_on}
 use Rattle.pg_cut.proofs.Replicas.{end_replica, vertices_rise, vertices_inside, vertices_fewer}
-use Rattle.pg_edge_store.specs.Store.{AreBetween}
+use Rattle.pg_edge_store.specs.Store.{AreBetween, renumbered}
 use Rattle.pg_edge_store.proofs.Replicas.{apart_from}
 
 -- one vertex more has its place

@@ -56,6 +56,14 @@ pub record IsOver (g : Multigraph) (s : Store) : Type 0 where
       ≡ end_at g side (slice_index s.numbers i)
   pub rows_are : s.rows ≡ map (edges_around s.edges) (range_with_len 0 (length s.vertices))
 
+-- an edge under other numbers for its ends
+abbrev pub renumbered : List ℕ → Edge → Edge
+renumbered numbers edge = record {
+  src = slice_index numbers edge.src;
+  dst = slice_index numbers edge.dst;
+  weight = edge.weight;
+}
+
 -- these edges of a graph, between the places of their ends among these vertices
 pub record AreBetween (g : Multigraph) (numbers vertices : List ℕ) (edges : List Edge)
     : Type 0 where
