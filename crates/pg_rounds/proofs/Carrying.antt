@@ -5,7 +5,7 @@ use Rattle.std.proofs.lemmas.Bool.{cases_lt}
 use Rattle.std.proofs.Math.ListN.{get_or-map}
 use Rattle.std.proofs.lemmas.List.{get_or_past, length-map}
 use Rattle.std.proofs.lemmas.List.FromFn.{length-map-range_with_len, get_or-map-range_with_len}
-use Rattle.pg_graph.specs.Multigraph.{Multigraph, IsMultigraph, info, end_at, side_at, vertices}
+use Rattle.pg_graph.specs.Multigraph.{Multigraph, IsMultigraph, info, end_at, side_at}
 use Rattle.pg_graph.specs.declared.edge.Edge.{Edge}
 use Rattle.pg_graph.specs.declared.edge.Side.{Side}
 use Rattle.pg_graph.specs.declared.edge.Side.TheVariants.{Source, Target}

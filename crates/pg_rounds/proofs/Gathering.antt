@@ -1,8 +1,8 @@
 -- Gathers that go on edge by edge are the gathers of each vertex over its own edges, and as many.
-use Rattle.std.proofs.Common.{◌≡◌, ℕ, ◌+◌, ◌<◌, ◌≤◌, ◌⊎◌, inl, inr, Bool, true, false, cond, ◌||◌, List, [], ◌∷◌, ◌++◌, length, get_or, suc, zero, refl, sym, ap, arith, ◌∙◌, length-append}
-use Rattle.std.specs.Prelude.{filter, fold, map, sum_by, ◌==◌, ◌≢◌}
+use Rattle.std.proofs.Common.{◌≡◌, ℕ, ◌+◌, ◌<◌, ◌≤◌, ◌⊎◌, inl, inr, Bool, true, false, cond, ◌||◌, List, [], ◌∷◌, length, suc, zero, refl, sym, ap, arith, ◌∙◌, length-append}
+use Rattle.std.specs.Prelude.{filter, fold, map, sum_by, ◌==◌}
 use Rattle.std.specs.List.{range_with_len}
-use Rattle.std.proofs.lemmas.Bool.{both_ways, cases_lt, eqb-true, eq-eqb, ne_eqb}
+use Rattle.std.proofs.lemmas.Bool.{cases_lt, eqb-true, eq-eqb, ne_eqb}
 use Rattle.std.proofs.lemmas.List.FromFn.{length-map-range_with_len, get_or-map-range_with_len}
 use Rattle.std.proofs.lemmas.List.Sums.{fold-append, sum_by-cons}
 use Rattle.std.proofs.lemmas.List.Elements.{filter-append}
@@ -14,8 +14,7 @@ use Rattle.pg_graph.proofs.Numbers.{numbers_more, filter_numbers_more, sum_filte
 use Rattle.pg_law.specs.Program.{Program}
 use Rattle.pg_law.specs.Laws.{IsLawful}
 use Rattle.pg_law.specs.Configuration.{Configuration, is_signalled, signalled}
-use Rattle.pg_law.specs.Round.{gathered, edges_over, fresh}
-use Rattle.pg_law.specs.Rounds.{gathers_in}
+use Rattle.pg_law.specs.Round.{gathered, fresh}
 use Rattle.pg_rounds.specs.Gathers.{acc_at, gather_step, gather_end, count_end, AreAccs}
 
 -- a filter becomes a test in the step

@@ -1,7 +1,6 @@
 -- Visits to all edges in order do what a round does.
-use Rattle.std.proofs.Common.{◌≡◌, ℕ, ◌<◌, true, List, [], length, refl, ◌∙◌, arith}
+use Rattle.std.proofs.Common.{◌≡◌, ℕ, ◌<◌, List, [], length, refl, ◌∙◌, arith}
 use Rattle.std.specs.Prelude.{Option, None, map, slice_index}
-use Rattle.std.specs.List.{range_with_len}
 use Rattle.std.proofs.lemmas.Bool.{cond-true}
 use Rattle.std.proofs.lemmas.List.FromFn.{fill_by_all}
 use Rattle.pg_graph.specs.Multigraph.{Multigraph, edges_at, vertices, edge_numbers}

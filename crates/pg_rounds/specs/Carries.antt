@@ -1,5 +1,5 @@
 -- What the edges see of the vertices that execute: their carries.
-use Rattle.std.specs.Prelude.{ℕ, Option, Some, None, List, map}
+use Rattle.std.specs.Prelude.{Option, Some, None, List, map}
 use Rattle.pg_graph.specs.Multigraph.{Multigraph, vertices, info}
 use Rattle.pg_law.specs.declared.values.Datum.{Datum}
 use Rattle.pg_law.specs.declared.values.Applied.{Applied}

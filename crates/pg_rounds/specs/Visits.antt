@@ -1,5 +1,5 @@
 -- In what order a round visits its edges, and what it notes of their words.
-use Rattle.std.specs.Prelude.{◌≡◌, ℕ, ◌<◌, ◌==◌, Bool, Option, None, is_some, cond, List, [], ◌∷◌, ◌++◌, length, slice_index, slice_index_or, filter, fold, All}
+use Rattle.std.specs.Prelude.{◌≡◌, ℕ, ◌<◌, ◌==◌, Bool, Option, None, is_some, cond, List, [], ◌∷◌, ◌++◌, length, slice_index, slice_index_or, filter, All}
 use Rattle.std.specs.List.{list_any, flat_map}
 use Rattle.pg_graph.specs.declared.edge.Edge.{Edge}
 use Rattle.pg_graph.specs.Multigraph.{Multigraph, edges_at, edge_at, is_at}

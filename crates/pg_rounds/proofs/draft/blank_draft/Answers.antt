@@ -1,4 +1,4 @@
-use Rattle.std.proofs.Common.{◌≡◌, None, length, ap, arith, ◌∙◌}
+use Rattle.std.proofs.Common.{None, length, ap, arith, ◌∙◌}
 use Rattle.std.proofs.lemmas.List.FromFn.{length-map-range_with_len, get_or-map-range_with_len}
 use Rattle.pg_law.specs.Configuration.{Configuration, datum_in, message_in}
 use Rattle.pg_law.specs.Carries.{carry_at}

@@ -1,4 +1,4 @@
-use Rattle.std.proofs.Common.{arith, ◌∙◌}
+use Rattle.std.proofs.Common.{arith}
 use Rattle.std.proofs.lemmas.List.{with_items_is}
 use Rattle.pg_rounds.proofs.Gathering.{empties_at, empties_own}
 use Rattle.pg_rounds.proofs.gather.gather_all.Goals as goal

@@ -1,7 +1,7 @@
-use Rattle.std.proofs.Common.{◌≡◌, ◌<◌, ◌∙◌, sym, subst, List, get_or, length, ap, arith}
+use Rattle.std.proofs.Common.{◌<◌, ◌∙◌, sym, subst, List, get_or, length, ap, arith}
 use Rattle.std.proofs.lemmas.List.{get_or_read}
 use Rattle.pg_graph.specs.declared.edge.Edge.{Edge}
-use Rattle.pg_graph.specs.Multigraph.{end_of, end_at, no_edge}
+use Rattle.pg_graph.specs.Multigraph.{end_of, no_edge}
 use Rattle.pg_law.proofs.Fitting.{end_within}
 use Rattle.pg_rounds.proofs.gather.gather_end.Goals as goal
 

@@ -1,4 +1,4 @@
-use Rattle.std.proofs.Common.{◌≡◌, ◌<◌, None, length, ap, arith, ◌∙◌}
+use Rattle.std.proofs.Common.{◌<◌, None, length, ap, arith, ◌∙◌}
 use Rattle.std.specs.Prelude.{is_some}
 use Rattle.std.proofs.lemmas.List.{get_or_read}
 use Rattle.pg_law.specs.Configuration.{Configuration, is_signalled, message_in}

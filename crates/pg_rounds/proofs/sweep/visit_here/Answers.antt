@@ -1,15 +1,11 @@
-use Rattle.std.proofs.Common.{◌≡◌, ◌<◌, List, [], ◌∷◌, length, get_or, ℕ, ap, sym, subst, arith, cond, refl, ◌∙◌}
-use Rattle.std.specs.Prelude.{◌==◌}
-use Rattle.std.proofs.lemmas.Bool.{cond-true, cond-false}
-use Rattle.pg_graph.specs.declared.edge.Edge.{Edge}
-use Rattle.pg_graph.specs.Multigraph.{no_edge, is_at, side_of, edge_at}
+use Rattle.std.proofs.Common.{◌≡◌, ◌<◌, length, ℕ, arith, cond, refl, ◌∙◌}
+use Rattle.pg_graph.specs.Multigraph.{is_at, side_of, edge_at}
 use Rattle.pg_law.specs.Configuration.{message_in}
 use Rattle.pg_law.specs.Round.{join, received, signal_in, from_source, from_target}
 use Rattle.pg_law.proofs.Fitting.{source_own, target_own, signal_own}
 use Rattle.pg_rounds.specs.Carries.{outcomes_with}
-use Rattle.pg_rounds.specs.Visits.{visitor, visitor_of, IsVisited}
 use Rattle.pg_rounds.proofs.Carrying.{with_own}
-use Rattle.pg_rounds.proofs.Steps.{visited_none, visited_edge, received_own}
+use Rattle.pg_rounds.proofs.Steps.{visited_edge, received_own}
 use Rattle.pg_rounds.proofs.sweep.visit_here.Goals as goal
 
 pub deliver-requires-clause-source : goal.deliver-requires-clause-source
