@@ -1,6 +1,7 @@
 pub mod Words
 pub mod Summaries
 pub mod Noting
+pub mod Neighbouring
 pub mod Touching
 pub mod Signals
 pub mod Journals

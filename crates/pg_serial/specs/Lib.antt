@@ -1,4 +1,5 @@
 pub mod Sending
+pub mod Neighbours
 pub mod Journals
 pub mod Serial
 pub mod Bits

@@ -1,10 +1,9 @@
 -- What a serial execution writes at the edges of its vertex.
-use Rattle.std.specs.Prelude.{◌≡◌, ℕ, ◌+◌, ◌<◌, ◌==◌, ◌||◌, ◌&&◌, Bool, not, cond, Option, Some, None}
+use Rattle.std.specs.Prelude.{ℕ, ◌<◌, ◌==◌, ◌||◌, ◌&&◌, Bool, not, cond, Option, Some, None}
 use Rattle.std.specs.Prelude.{is_some, List}
-use Rattle.std.specs.Prelude.{slice_index, length, map, filter, fold}
+use Rattle.std.specs.Prelude.{slice_index, map, filter, fold}
 use Rattle.std.specs.List.{list_any}
-use Rattle.pg_graph.specs.declared.edge.Edge.{Edge}
-use Rattle.pg_graph.specs.Multigraph.{Multigraph, edge_at, edges_at, end_at, side_at, opposite, takes}
+use Rattle.pg_graph.specs.Multigraph.{Multigraph, edges_at, end_at, side_at, opposite, takes}
 use Rattle.pg_law.specs.declared.values.Datum.{Datum}
 use Rattle.pg_law.specs.declared.values.Near.{Near}
 use Rattle.pg_law.specs.declared.values.Applied.{Applied}
@@ -18,13 +17,6 @@ use Rattle.pg_serial.specs.declared.scatter.Sent.{Sent}
 -- the vertex at the other end of an edge
 abbrev pub other_end : Multigraph → ℕ → ℕ → ℕ
 other_end g u e = end_at g (opposite (side_at g u e)) e
-
--- what an edge's ends sum up to, and sums of the first edges of a graph
-abbrev pub end_sum : Edge → ℕ
-end_sum edge = edge.src + edge.dst
-
-abbrev pub AreEndSums : Multigraph → List ℕ → Type 0
-AreEndSums g sums = (e : ℕ) → e < length sums → slice_index sums e ≡ end_sum (edge_at g e)
 
 -- an edge as the executing vertex sees it once it has its new datum
 abbrev pub near_after : Multigraph → List Datum → ℕ → ℕ → ℕ → Datum → Near

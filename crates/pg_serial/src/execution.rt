@@ -2,13 +2,14 @@
 ghost use Rattle.std.specs.Prelude.{◌≡◌, ◌≢◌, ℕ, ◌+◌, ◌<◌, ◌≤◌, ◌^◌, ◌||◌, ◌==◌, Some, length};
 ghost use Rattle.std.specs.Prelude.{IfOk, OnOk, OnErr, All};
 ghost use Rattle.std.specs.Prelude.{if◌then◌else◌};
+ghost use Rattle.pg_serial.specs.Neighbours.{AreNeighbours};
 ghost use Rattle.pg_law.specs.Configuration.{Configuration, IsFit, is_signalled, message_in};
 ghost use Rattle.pg_law.specs.Round.{outcome, execution};
 ghost use Rattle.pg_serial.specs.Journals.{gather_degree};
-ghost use Rattle.pg_serial.specs.Sending.{sents_around, AreEndSums, IsAddressed, reaches};
+ghost use Rattle.pg_serial.specs.Sending.{sents_around, IsAddressed, reaches};
 
-use crate::end_sums::EndSums;
 use crate::gather::turn_of;
+use crate::neighbours::Neighbours;
 use crate::scatter::{Sent, deliver, scatter_around};
 use crate::writing::write_words;
 use pg_graph::Graph;
@@ -50,13 +51,13 @@ fn commit<P: VertexProgram>(
 
 /// Executes `u`, which has this message, and answers over how many edges it gathered.
 ///
-/// It touches `u` and its edges alone, whose other ends the sums tell. All memory is taken before
+/// It touches `u` and its edges alone, whose other ends the rows tell. All memory is taken before
 /// the first write, and `sents` is left with what was sent.
-pub fn execute_by_sums<P: VertexProgram, L: Ledger>(
+pub fn execute_beside<P: VertexProgram, L: Ledger>(
     alloc: Global,
     program: &P,
     graph: &Graph,
-    sums: &EndSums,
+    neighbours: &Neighbours,
     state: &mut State,
     u: u32,
     message: u64,
@@ -64,7 +65,7 @@ pub fn execute_by_sums<P: VertexProgram, L: Ledger>(
     steps: &mut Steps<L>,
 ) -> Result<u64, AllocError>
     requires fit { IsFit (P.meaning program.now) graph.now state.old }
-    requires sums { AreEndSums graph.now sums.now }
+    requires neighbours { AreNeighbours graph.now neighbours.now }
     requires u { u < length graph.now.ids }
     requires message { message_in state.old.messages u ≡ Some message }
     ensures state { let p = P.meaning program.now in
@@ -83,12 +84,12 @@ pub fn execute_by_sums<P: VertexProgram, L: Ledger>(
 {
     laws_of(program);
     let _ = graph.vertices();
-    let turn = turn_of(alloc, program, graph, sums, state, u, message, steps)?;
+    let turn = turn_of(alloc, program, graph, neighbours, state, u, message, steps)?;
     scatter_around(
         alloc,
         program,
         graph,
-        sums,
+        neighbours,
         state.values.as_slice(),
         &state.edges,
         u,
@@ -138,9 +139,17 @@ pub fn execute_signalled<P: VertexProgram, L: Ledger>(
     ensures fit { IsFit (P.meaning program.now) graph.now state.new }
     ensures err { OnErr result (state.new ≡ state.old) }
 {
-    let sums = EndSums::none(alloc);
-    execute_by_sums(
-        alloc, program, graph, &sums, state, u, message, sents, steps,
+    let neighbours = Neighbours::none(alloc);
+    execute_beside(
+        alloc,
+        program,
+        graph,
+        &neighbours,
+        state,
+        u,
+        message,
+        sents,
+        steps,
     )
 }
 
@@ -150,14 +159,14 @@ pub fn execute_with<P: VertexProgram, L: Ledger>(
     alloc: Global,
     program: &P,
     graph: &Graph,
-    sums: &EndSums,
+    neighbours: &Neighbours,
     state: &mut State,
     u: u32,
     sents: &mut Vec<Sent>,
     steps: &mut Steps<L>,
 ) -> Result<bool, AllocError>
     requires fit { IsFit (P.meaning program.now) graph.now state.old }
-    requires sums { AreEndSums graph.now sums.now }
+    requires neighbours { AreNeighbours graph.now neighbours.now }
     requires u { u < length graph.now.ids }
     ensures signalled { IfOk result (λ executed. executed ≡ is_signalled state.old u) }
     ensures state { OnOk result (state.new ≡ (if is_signalled state.old u
@@ -170,7 +179,9 @@ pub fn execute_with<P: VertexProgram, L: Ledger>(
     match state.messages[u as usize] {
         None => Ok(false),
         Some(message) => {
-            execute_by_sums(alloc, program, graph, sums, state, u, message, sents, steps)?;
+            execute_beside(
+                alloc, program, graph, neighbours, state, u, message, sents, steps,
+            )?;
             Ok(true)
         }
     }
@@ -199,7 +210,16 @@ pub fn execute<P: VertexProgram, L: Ledger>(
     ensures fit { IsFit (P.meaning program.now) graph.now state.new }
     ensures err { OnErr result (state.new ≡ state.old) }
 {
-    let sums = EndSums::none(alloc);
+    let neighbours = Neighbours::none(alloc);
     let mut sents = Vec::new(alloc);
-    execute_with(alloc, program, graph, &sums, state, u, &mut sents, steps)
+    execute_with(
+        alloc,
+        program,
+        graph,
+        &neighbours,
+        state,
+        u,
+        &mut sents,
+        steps,
+    )
 }

@@ -1,12 +1,12 @@
 //! The gather of the executing vertex.
-ghost use Rattle.std.specs.Prelude.{◌≡◌, ◌+◌, ◌<◌, Some, true, length, IfOk, OnOk};
-ghost use Rattle.pg_graph.specs.Multigraph.{is_at, edge_at, side_at};
+ghost use Rattle.std.specs.Prelude.{◌≡◌, ◌+◌, ◌<◌, Some, length, slice_index, IfOk, OnOk};
+ghost use Rattle.pg_serial.specs.Neighbours.{AreNeighbours};
+ghost use Rattle.pg_graph.specs.Multigraph.{edges_at, side_at};
 ghost use Rattle.pg_law.specs.Laws.{IsApplied, IsNear};
 ghost use Rattle.pg_law.specs.Configuration.{AreData, AreWords, IsFit, message_in};
 ghost use Rattle.pg_law.specs.Round.{near_of, edges_over, sum_over, apply_to};
-ghost use Rattle.pg_serial.specs.Sending.{AreEndSums};
 
-use crate::end_sums::EndSums;
+use crate::neighbours::Neighbours;
 use pg_graph::Graph;
 use pg_law::{
     Datum, EdgeWords, Gathered, Near, State, Steps, Turn, VertexProgram, laws_of, near_edge,
@@ -14,21 +14,23 @@ use pg_law::{
 use std::alloc::{AllocError, Global};
 use std::sync::ledger::Ledger;
 
-/// An edge with this word, as its end `u` sees it.
+/// The edge at this place around `u`, with this word, as `u` sees it.
 pub fn near_at<P: VertexProgram>(
     program: &P,
     graph: &Graph,
-    sums: &EndSums,
+    neighbours: &Neighbours,
     values: &[Datum],
     u: u32,
+    at: usize,
     e: u32,
     word: u64,
 ) -> Near
     requires values { AreData (P.meaning program.now) graph.now values.now }
     requires word { (P.meaning program.now).IsWord word }
-    requires sums { AreEndSums graph.now sums.now }
+    requires neighbours { AreNeighbours graph.now neighbours.now }
     requires e { e < length graph.now.edges }
-    requires at { is_at u (edge_at graph.now e) ≡ true }
+    requires at { at < length (edges_at graph.now u) }
+    requires edge { e ≡ slice_index (edges_at graph.now u) at }
     ensures value { result ≡ near_of graph.now values.now (side_at graph.now u e) e word }
     ensures near { IsNear (P.meaning program.now) result }
 {
@@ -39,16 +41,16 @@ pub fn near_at<P: VertexProgram>(
         edge: near.edge,
         word: near.word,
         centre: near.centre,
-        other: values[sums.other(graph, u, e) as usize],
+        other: values[neighbours.other(graph, u, at, e) as usize],
     }
 }
 
-/// As `fresh_gather`, by the sums of the ends of edges.
+/// As `fresh_gather`, by the rows of other ends.
 fn gather_around<P: VertexProgram, L: Ledger>(
     alloc: Global,
     program: &P,
     graph: &Graph,
-    sums: &EndSums,
+    neighbours: &Neighbours,
     values: &[Datum],
     words: &EdgeWords,
     u: u32,
@@ -56,7 +58,7 @@ fn gather_around<P: VertexProgram, L: Ledger>(
 ) -> Result<Gathered<P::Acc>, AllocError>
     requires values { AreData (P.meaning program.now) graph.now values.now }
     requires words { AreWords (P.meaning program.now) graph.now words.now }
-    requires sums { AreEndSums graph.now sums.now }
+    requires neighbours { AreNeighbours graph.now neighbours.now }
     requires u { u < length graph.now.ids }
     ensures gathered { let p = P.meaning program.now in
         IfOk result (λ gathered. gathered.acc
@@ -73,13 +75,24 @@ fn gather_around<P: VertexProgram, L: Ledger>(
     let around = graph.edges_of(u);
     let mut acc = program.empty(alloc)?;
     let mut count = 0;
+    let mut at = 0;
     for e in around {
         if dir.takes(edges[*e as usize].side(u)) {
-            let near = near_at(program, graph, sums, values, u, *e, words.word(*e));
+            let near = near_at(
+                program,
+                graph,
+                neighbours,
+                values,
+                u,
+                at,
+                *e,
+                words.word(*e),
+            );
             let part = program.gather(alloc, near, steps)?;
             acc = program.sum(alloc, acc, &part)?;
             count += 1;
         }
+        at += 1;
     }
     Ok(Gathered { acc, edges: count })
 }
@@ -89,14 +102,14 @@ pub fn turn_of<P: VertexProgram, L: Ledger>(
     alloc: Global,
     program: &P,
     graph: &Graph,
-    sums: &EndSums,
+    neighbours: &Neighbours,
     state: &State,
     u: u32,
     message: u64,
     steps: &mut Steps<L>,
 ) -> Result<Turn<P::Carry>, AllocError>
     requires fit { IsFit (P.meaning program.now) graph.now state.now }
-    requires sums { AreEndSums graph.now sums.now }
+    requires neighbours { AreNeighbours graph.now neighbours.now }
     requires u { u < length graph.now.ids }
     requires message { message_in state.now.messages u ≡ Some message }
     ensures applied { IfOk result (λ turn. apply_to
@@ -111,7 +124,7 @@ pub fn turn_of<P: VertexProgram, L: Ledger>(
         alloc,
         program,
         graph,
-        sums,
+        neighbours,
         state.values.as_slice(),
         &state.edges,
         u,

@@ -2,10 +2,10 @@
 #![tactic(auto)]
 
 mod bits;
-mod end_sums;
 mod entries;
 mod execution;
 mod gather;
+mod neighbours;
 mod noted;
 mod replaying;
 mod scatter;

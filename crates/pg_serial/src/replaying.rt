@@ -1,10 +1,11 @@
 //! A journal that is executed again.
 ghost use Rattle.std.specs.Prelude.{◌≡◌, ◌+◌, IfOk};
+ghost use Rattle.pg_serial.specs.Neighbours.{AreNeighbours};
 ghost use Rattle.pg_law.specs.Configuration.{Configuration, IsFit};
 ghost use Rattle.pg_serial.specs.Journals.{IsReplayed, IsReplayFit, executed_by, gathers_over};
 
-use crate::end_sums::EndSums;
 use crate::execution::execute_with;
+use crate::neighbours::Neighbours;
 use pg_graph::Graph;
 use pg_law::{Datum, JournalEntry, State, Steps, VertexProgram};
 use std::alloc::{AllocError, Global};
@@ -37,7 +38,7 @@ pub fn replay<P: VertexProgram, L: Ledger>(
     ensures fit { IfOk result (IsReplayFit (P.meaning program.now) graph.now) }
 {
     let mut state = state;
-    let sums = EndSums::of(alloc, graph)?;
+    let neighbours = Neighbours::of(alloc, graph)?;
     let mut sents = Vec::new(alloc);
     for at in 0..journal.len() {
         let entry = journal[at];
@@ -48,7 +49,7 @@ pub fn replay<P: VertexProgram, L: Ledger>(
             alloc,
             program,
             graph,
-            &sums,
+            &neighbours,
             &mut state,
             entry.vertex,
             &mut sents,

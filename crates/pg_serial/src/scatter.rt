@@ -1,16 +1,17 @@
 //! What an execution sends over the edges of its vertex.
 ghost use Rattle.std.specs.Prelude.{◌≡◌, ◌<◌, ◌++◌, [], ◌∷◌, true, length, slice_index, IfOk};
 ghost use Rattle.std.specs.Prelude.{OnOk, All, if◌then◌else◌};
+ghost use Rattle.pg_serial.specs.Neighbours.{AreNeighbours};
 ghost use Rattle.pg_law.specs.Laws.{IsApplied, IsNear, IsOptional};
 ghost use Rattle.pg_law.specs.Configuration.{AreData, AreWords, message_in};
 ghost use Rattle.pg_law.specs.Round.{join as joined};
 ghost use Rattle.pg_serial.specs.Sending.{near_after, sent_over, sents_around, is_news};
-ghost use Rattle.pg_graph.specs.Multigraph.{is_at, edge_at};
-ghost use Rattle.pg_serial.specs.Sending.{AreEndSums, IsAddressed};
+ghost use Rattle.pg_graph.specs.Multigraph.{edges_at};
+ghost use Rattle.pg_serial.specs.Sending.{IsAddressed};
 ghost use Rattle.pg_serial.specs.Sending.{message_with};
 
-use crate::end_sums::EndSums;
 use crate::gather::near_at;
+use crate::neighbours::Neighbours;
 use pg_graph::Graph;
 use pg_law::{Applied, Datum, EdgeWords, Near, VertexProgram, laws_of};
 use std::alloc::{AllocError, Global};
@@ -29,23 +30,25 @@ pub struct Sent {
 fn near_with<P: VertexProgram>(
     program: &P,
     graph: &Graph,
-    sums: &EndSums,
+    neighbours: &Neighbours,
     values: &[Datum],
     u: u32,
+    at: usize,
     e: u32,
     word: u64,
     datum: Datum,
 ) -> Near
     requires values { AreData (P.meaning program.now) graph.now values.now }
-    requires sums { AreEndSums graph.now sums.now }
+    requires neighbours { AreNeighbours graph.now neighbours.now }
     requires e { e < length graph.now.edges }
-    requires at { is_at u (edge_at graph.now e) ≡ true }
+    requires at { at < length (edges_at graph.now u) }
+    requires edge { e ≡ slice_index (edges_at graph.now u) at }
     requires word { (P.meaning program.now).IsWord word }
     requires datum { (P.meaning program.now).IsDatum datum }
     ensures value { result ≡ near_after graph.now values.now u e word datum }
     ensures near { IsNear (P.meaning program.now) result }
 {
-    let near = near_at(program, graph, sums, values, u, e, word);
+    let near = near_at(program, graph, neighbours, values, u, at, e, word);
     Near {
         side: near.side,
         edge: near.edge,
@@ -60,19 +63,21 @@ fn scatter_over<P: VertexProgram>(
     alloc: Global,
     program: &P,
     graph: &Graph,
-    sums: &EndSums,
+    neighbours: &Neighbours,
     values: &[Datum],
     words: &EdgeWords,
     u: u32,
+    at: usize,
     applied: Applied<P::Carry>,
     e: u32,
 ) -> Result<Sent, AllocError>
     requires values { AreData (P.meaning program.now) graph.now values.now }
     requires words { AreWords (P.meaning program.now) graph.now words.now }
-    requires sums { AreEndSums graph.now sums.now }
+    requires neighbours { AreNeighbours graph.now neighbours.now }
     requires applied { IsApplied (P.meaning program.now) applied }
     requires e { e < length graph.now.edges }
-    requires at { is_at u (edge_at graph.now e) ≡ true }
+    requires at { at < length (edges_at graph.now u) }
+    requires edge { e ≡ slice_index (edges_at graph.now u) at }
     ensures value { IfOk result (λ sent.
         sent ≡ sent_over (P.meaning program.now) graph.now values.now words.now u applied e) }
     ensures own { IfOk result
@@ -81,7 +86,7 @@ fn scatter_over<P: VertexProgram>(
     laws_of(program);
     let side = graph.edges()[e as usize].side(u);
     let word = words.word(e);
-    let to = sums.other(graph, u, e);
+    let to = neighbours.other(graph, u, at, e);
     if !program.scatter_edges().takes(side) {
         return Ok(Sent {
             edge: e,
@@ -90,7 +95,17 @@ fn scatter_over<P: VertexProgram>(
             signal: None,
         });
     }
-    let near = near_with(program, graph, sums, values, u, e, word, applied.datum);
+    let near = near_with(
+        program,
+        graph,
+        neighbours,
+        values,
+        u,
+        at,
+        e,
+        word,
+        applied.datum,
+    );
     let scattered = program.scatter(alloc, near, applied.carry)?;
     Ok(Sent {
         edge: e,
@@ -116,7 +131,7 @@ pub fn scatter_around<P: VertexProgram>(
     alloc: Global,
     program: &P,
     graph: &Graph,
-    sums: &EndSums,
+    neighbours: &Neighbours,
     values: &[Datum],
     words: &EdgeWords,
     u: u32,
@@ -125,7 +140,7 @@ pub fn scatter_around<P: VertexProgram>(
 ) -> Result<(), AllocError>
     requires values { AreData (P.meaning program.now) graph.now values.now }
     requires words { AreWords (P.meaning program.now) graph.now words.now }
-    requires sums { AreEndSums graph.now sums.now }
+    requires neighbours { AreNeighbours graph.now neighbours.now }
     requires u { u < length graph.now.ids }
     requires applied { IsApplied (P.meaning program.now) applied }
     ensures value { OnOk result (sents.new.items ≡
@@ -134,9 +149,13 @@ pub fn scatter_around<P: VertexProgram>(
         (length graph.now.edges) (length graph.now.ids)) sents.new.items) }
 {
     sents.clear();
+    let mut at = 0;
     for e in graph.edges_of(u) {
-        let sent = scatter_over(alloc, program, graph, sums, values, words, u, applied, *e)?;
+        let sent = scatter_over(
+            alloc, program, graph, neighbours, values, words, u, at, applied, *e,
+        )?;
         note(sents, words.word(*e), sent)?;
+        at += 1;
     }
     Ok(())
 }

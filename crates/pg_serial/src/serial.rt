@@ -3,6 +3,7 @@ ghost use Rattle.std.specs.Prelude.{◌≡◌, ℕ, ◌+◌, ◌<◌, ◌≤◌,
 ghost use Rattle.std.specs.Prelude.{flat_map, All, IfOk, OnOk, OnErr};
 ghost use Rattle.std.specs.Prelude.{IsErrOf, if◌then◌else◌};
 ghost use Rattle.std.specs.Io.KnownBytes.{append_known};
+ghost use Rattle.pg_serial.specs.Neighbours.{AreNeighbours};
 ghost use Rattle.pg_base.specs.Faults.{HasRisen};
 ghost use Rattle.pg_base.specs.Writing.{SendsFront};
 ghost use Rattle.pg_law.specs.declared.async_end.AsyncError.TheVariants.{WriteFault};
@@ -13,12 +14,12 @@ ghost use Rattle.pg_law.specs.Journal.{replay as replay_of};
 ghost use Rattle.pg_serial.specs.Bits.{has};
 ghost use Rattle.pg_serial.specs.Journals.{gather_degree, gathers_over};
 ghost use Rattle.pg_serial.specs.Queue.{HasSignalled, IsNextOf};
-ghost use Rattle.pg_serial.specs.Sending.{AreEndSums, reaches};
+ghost use Rattle.pg_serial.specs.Sending.{reaches};
 ghost use Rattle.pg_serial.specs.Serial.{entry_after, serial_journal, IsSerialJournal};
 
-use crate::end_sums::EndSums;
 use crate::entries::{ROOM, flush, put_entry};
-use crate::execution::execute_by_sums;
+use crate::execution::execute_beside;
+use crate::neighbours::Neighbours;
 use crate::scatter::Sent;
 use crate::signal_set::SignalSet;
 use pg_base::Sink;
@@ -97,7 +98,7 @@ fn serial_step<P: VertexProgram, L: Ledger>(
     alloc: Global,
     program: &P,
     graph: &Graph,
-    sums: &EndSums,
+    neighbours: &Neighbours,
     state: &mut State,
     queue: &mut SignalSet,
     u: u32,
@@ -105,7 +106,7 @@ fn serial_step<P: VertexProgram, L: Ledger>(
     steps: &mut Steps<L>,
 ) -> Result<u64, AllocError>
     requires fit { IsFit (P.meaning program.now) graph.now state.old }
-    requires sums { AreEndSums graph.now sums.now }
+    requires neighbours { AreNeighbours graph.now neighbours.now }
     requires u { u < length graph.now.ids }
     requires signalled { is_signalled state.old u ≡ true }
     requires room { length graph.now.ids ≤ 64 * length queue.old }
@@ -121,7 +122,9 @@ fn serial_step<P: VertexProgram, L: Ledger>(
     ensures queue { OnOk result (HasSignalled queue.new state.new) }
 {
     let message = state.messages[u as usize].unwrap();
-    let gathers = execute_by_sums(alloc, program, graph, sums, state, u, message, sents, steps)?;
+    let gathers = execute_beside(
+        alloc, program, graph, neighbours, state, u, message, sents, steps,
+    )?;
     requeue(
         queue,
         u,
@@ -173,7 +176,7 @@ pub fn run_serial<P: VertexProgram, K: Sink, T: EntryText, L: Ledger>(
     ensures later { K.faults journal.old ≤ K.faults journal.new }
 {
     let mut state = state;
-    let sums = EndSums::of(alloc, graph)?;
+    let neighbours = Neighbours::of(alloc, graph)?;
     let mut queue = queue_of(alloc, graph, &state)?;
     let mut waiting = Vec::with_capacity(alloc, ROOM)?;
     let mut sents = Vec::new(alloc);
@@ -181,7 +184,15 @@ pub fn run_serial<P: VertexProgram, K: Sink, T: EntryText, L: Ledger>(
     let mut left = fuel;
     while let Some(u) = next(&queue, graph, &state, left) {
         gathers += serial_step(
-            alloc, program, graph, &sums, &mut state, &mut queue, u, &mut sents, steps,
+            alloc,
+            program,
+            graph,
+            &neighbours,
+            &mut state,
+            &mut queue,
+            u,
+            &mut sents,
+            steps,
         )?;
         put_entry(journal, &mut waiting, text, graph, entry_of(&state, u))?;
         left -= 1;

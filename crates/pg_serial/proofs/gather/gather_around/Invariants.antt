@@ -12,5 +12,6 @@ invariant-loop-e g l = let p = g.P.VertexProgram.meaning l.program in
       own : p.IsAcc l.acc;
       count : l.count ≡ length seen;
       few : l.count ≤ l.e-index;
+      at : l.at ≡ l.e-index;
       counted : l.steps ≡ l.initial.steps + length seen;
     }

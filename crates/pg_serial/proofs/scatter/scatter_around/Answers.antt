@@ -22,5 +22,6 @@ loop-e-preserved g c = let p = g.P.VertexProgram.meaning c.args.program.now in
           (c.in_ok-note.ensures ∙ ap (λ word. cond (is_news word sent) (old ++ sent ∷ []) old) c.word.ensures
           ∙ ap (λ (sent : Sent). cond (is_news (slice_index words e) sent) (old ++ sent ∷ []) old) c.in_ok-sent.ensures.value
           ∙ ap (λ (edges : List ℕ). let e = get_or edges i 0 in cond (is_news (slice_index words e) (f e)) (old ++ f e ∷ []) old) c.edges_of-e-items.ensures.value);
+      at = omega (arith, c.loop-e.invariant.at);
       own = noted_own (IsAddressed p (length graph.edges) (length graph.ids)) _ sent old c.note.new.sents.items c.loop-e.invariant.own c.in_ok-sent.ensures.own c.in_ok-note.ensures;
     }

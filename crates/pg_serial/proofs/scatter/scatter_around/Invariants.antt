@@ -10,4 +10,5 @@ invariant-loop-e g l = let p = g.P.VertexProgram.meaning l.program in
     record {
       value : l.sents.items ≡ sents_over p l.graph l.values l.words l.u l.applied (take l.e-index (edges_at l.graph l.u));
       own : All (IsAddressed p (length l.graph.edges) (length l.graph.ids)) l.sents.items;
+      at : l.at ≡ l.e-index;
     }

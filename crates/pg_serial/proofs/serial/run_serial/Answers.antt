@@ -9,8 +9,8 @@ use Rattle.pg_serial.proofs.Running.{SoFar, begun, front_now, front_more, went_o
 use Rattle.pg_serial.proofs.Waiting.{front_nothing, on_err}
 use Rattle.pg_serial.proofs.serial.run_serial.Goals as goal
 
-pub returns-in_err-sums-clause-journal : goal.returns-in_err-sums-clause-journal
-returns-in_err-sums-clause-journal g c = serial_laws (g.P.VertexProgram.meaning c.args.program.now) c.args.graph.now c.args.state c.args.fuel
+pub returns-in_err-neighbours-clause-journal : goal.returns-in_err-neighbours-clause-journal
+returns-in_err-neighbours-clause-journal g c = serial_laws (g.P.VertexProgram.meaning c.args.program.now) c.args.graph.now c.args.state c.args.fuel
 
 pub returns-in_err-queue-clause-journal : goal.returns-in_err-queue-clause-journal
 returns-in_err-queue-clause-journal g c = serial_laws (g.P.VertexProgram.meaning c.args.program.now) c.args.graph.now c.args.state c.args.fuel
@@ -31,8 +31,8 @@ pub returns-clause-journal : goal.returns-clause-journal
 returns-clause-journal g c = serial_laws (g.P.VertexProgram.meaning c.args.program.now) c.args.graph.now c.args.state c.args.fuel
 
 -- nothing was written so far
-pub returns-in_err-sums-clause-front : goal.returns-in_err-sums-clause-front
-returns-in_err-sums-clause-front g c = on_err _ _ (front_nothing _ _)
+pub returns-in_err-neighbours-clause-front : goal.returns-in_err-neighbours-clause-front
+returns-in_err-neighbours-clause-front g c = on_err _ _ (front_nothing _ _)
 
 pub returns-in_err-queue-clause-front : goal.returns-in_err-queue-clause-front
 returns-in_err-queue-clause-front g c = on_err _ _ (front_nothing _ _)

@@ -7,7 +7,7 @@ use Rattle.pg_serial.specs.declared.scatter.Sent.{Sent}
 use Rattle.pg_serial.specs.Sending.{sents_around, IsAddressed}
 use Rattle.pg_serial.proofs.Touching.{outcome_here}
 use Rattle.pg_serial.proofs.Signals.{degree_few, signals_after}
-use Rattle.pg_serial.proofs.execution.execute_by_sums.Goals as goal
+use Rattle.pg_serial.proofs.execution.execute_beside.Goals as goal
 
 pub commit-requires-clause-applied : goal.commit-requires-clause-applied
 commit-requires-clause-applied g c κs within = outcome_here (g.P.VertexProgram.meaning c.args.program.now) c.args.graph.now c.args.state.now
